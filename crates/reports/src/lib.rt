@@ -1,0 +1,2 @@
+// What the program reads and says, apart from reaching outside.
+pub mod step_list;
