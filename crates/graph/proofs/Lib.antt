@@ -1,1 +1,6 @@
 pub mod Deciding
+mod Looking
+mod Equality
+mod Fitting
+mod Checking
+mod Standing

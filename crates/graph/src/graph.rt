@@ -1,0 +1,25 @@
+// An execution graph in lent memory. The struct stands alone, since the definitions that its calls
+// cite name it.
+ghost use denote.Ref.{now};
+ghost use mathlib.Core.List.{List};
+ghost use Prim.Native.Nat.{_≤_};
+ghost use Rattle.graph.specs.History.{Step};
+ghost use Rattle.graph.specs.Memory.{Tells, Ever-proper, room-of};
+use crate::event::Event;
+use crate::undo::Undo;
+
+mod calls;
+
+/// A graph: the initial writes, and events added in a slice that the caller lends.
+#[derive(Drop)]
+pub struct Graph<'a> {
+    /// The records; the first `count` are the added events.
+    events: &'a mut [Event],
+    count: u8,
+    /// What undoes the standing steps, the oldest first; `standing` entries count.
+    log: [Undo; 256],
+    standing: u16,
+    ghost within: { count ≤ room-of (now events) },
+    ghost few: { standing ≤ 256 },
+    ghost told: { ∥ ((hs : List Step) × (Tells (now events) count log standing hs × Ever-proper hs)) ∥₁ },
+}

@@ -1,0 +1,146 @@
+// The calls on a graph.
+ghost use denote.Ref.{name};
+ghost use mathlib.Core.Path.{_≡_};
+ghost use mathlib.Core.Bool.{true, cond};
+ghost use mathlib.Core.List.{List, []};
+ghost use Prim.Native.Nat.{_-_, _≤_, _<_};
+ghost use lib.ListN.{length, getD, set};
+ghost use Rattle.std.specs.Orderings.{Decides};
+ghost use Rattle.std.specs.Results.{isOk, isErr};
+ghost use Rattle.std.specs.declared.option.Option.the-variants.{Some};
+ghost use Rattle.graph.specs.Events.{fresh, absent};
+ghost use Rattle.graph.specs.History.{Step, code-of, resource as «resourced», with-source};
+ghost use Rattle.graph.specs.Holds.{Holds, Does, Equal, added-events, written};
+ghost use Rattle.graph.specs.Lookup.{lookup};
+ghost use Rattle.graph.specs.Memory.{room-of};
+ghost use Rattle.graph.specs.Proper.{Proper};
+use super::Graph;
+use crate::call::Call;
+use crate::checks::check_addition;
+use crate::checks::check_sourcing;
+use crate::event::Event;
+use crate::event::EventPartialEq;
+use crate::event::INITIAL;
+use crate::lookup::event_at;
+use crate::refusal::Refusal;
+use crate::refusal::Refused;
+use crate::refusal::RefusedFromRefusal;
+use crate::undo::Undo;
+
+/// The most events that a graph can have besides the initial writes.
+pub const MOST_EVENTS: usize = 56;
+
+impl<'a> Graph<'a> {
+    /// A graph with no added event and no step, whatever the slice holds. Nothing is written.
+    pub fn new(events: &'a mut [Event]) -> Self
+        ensures empty { λ r. ⌜ Holds r [] ⌝ }
+        ensures slice { λ r. ⌜ now (r .events) ≡ now (events .entry) ⌝ }
+        ensures lent { λ r. ⌜ name (r .events) ≡ name (events .entry) ⌝ }
+    {
+        Graph {
+            events,
+            count: 0,
+            log: [Undo::Added; 256],
+            standing: 0,
+        }
+    }
+
+    /// How many events can be added in all: 56, or the length of the slice if that is less.
+    pub fn room(&self) -> u8
+        ensures { λ r. ⌜ r ≡ room-of (now (now (self .entry) .events)) ⌝ }
+    {
+        let len = self.events.len();
+        if len < MOST_EVENTS { len as u8 } else { 56 }
+    }
+
+    /// How many steps stand: additions and sourcings that were not taken back.
+    pub fn standing(&self) -> u16
+        ensures value { λ r. ⌜ r ≡ now (self .entry) .standing ⌝ }
+        ensures told { λ r. ⌜ ((hs : List Step) → Holds (now (self .entry)) hs → r ≡ length hs) ⌝ }
+        ensures few { λ r. ⌜ r ≤ 256 ⌝ }
+    {
+        self.standing
+    }
+
+    /// The added events, in the order of their addition.
+    pub fn events(&self) -> &[Event]
+        ensures value { λ r. ⌜ now r ≡ added-events (now (self .entry)) ⌝ }
+        ensures proper { λ r. ⌜ Proper (now r) ⌝ }
+        ensures few { λ r. ⌜ length (now r) ≤ 56 ⌝ }
+    {
+        &self.events[0..self.count as usize]
+    }
+
+    /// The event of a number, initial writes too, where it is present.
+    pub fn find(&self, number: u8) -> Option<Event>
+        ensures { λ r. ⌜ r ≡ lookup (added-events (now (self .entry))) number ⌝ }
+    {
+        event_at(self.events(), number)
+    }
+
+    /// Have both graphs the same added events, with the same sources?
+    pub fn same_as(&self, other: &Graph) -> bool
+        ensures { λ r. ⌜ Decides r (Equal (now (self .entry)) (now (other .entry))) ⌝ }
+    {
+        self.events() == other.events()
+    }
+}
+
+impl<'a> Graph<'a> {
+    /// Adds an event and answers its number. A read starts with the initial write of its location.
+    /// Refusals, in this order: 2, 3, 4, 5, 1, 6.
+    pub fn add(&mut self, thread: u8, code: u8, location: u8, value: u32) -> Result<u8, Refused>
+        ensures told { λ r. ⌜ Does (Call.Add thread code location value) (now (self .entry)) (now (self .exit)) r ⌝ }
+        ensures slice { λ r. ⌜ now (now (self .exit) .events) ≡ cond (isOk r) (set (now (now (self .entry) .events)) (now (self .entry) .count) (fresh thread (code-of code) location value)) (now (now (self .entry) .events)) ⌝ }
+        ensures same { λ r. ⌜ (isErr r ≡ true → now (self .exit) ≡ now (self .entry)) ⌝ }
+        ensures len { λ _. ⌜ length (now (now (self .exit) .events)) ≡ length (now (now (self .entry) .events)) ⌝ }
+        ensures lent { λ _. ⌜ name (now (self .exit) .events) ≡ name (now (self .entry) .events) ⌝ }
+    {
+        let at = self.count;
+        let kind = check_addition(
+            self.room(),
+            at,
+            self.standing,
+            thread,
+            code,
+            location,
+            value,
+        )?;
+        self.events[at as usize] = Event::fresh(thread, kind, location, value);
+        self.log[self.standing as usize] = Undo::Added;
+        self.count = at + 1;
+        self.standing += 1;
+        Ok(at + INITIAL)
+    }
+
+    /// Gives a read another source and answers how many steps stand. Refusals, in this order: 10,
+    /// 7, 8, 6.
+    pub fn source(&mut self, read: u8, write: u8) -> Result<u16, Refused>
+        ensures told { λ r. ⌜ Does (Call.Source read write) (now (self .entry)) (now (self .exit)) r ⌝ }
+        ensures slice { λ r. ⌜ now (now (self .exit) .events) ≡ cond (isOk r) («resourced» (now (now (self .entry) .events)) read (Some write)) (now (now (self .entry) .events)) ⌝ }
+        ensures same { λ r. ⌜ (isErr r ≡ true → now (self .exit) ≡ now (self .entry)) ⌝ }
+        ensures len { λ _. ⌜ length (now (now (self .exit) .events)) ≡ length (now (now (self .entry) .events)) ⌝ }
+        ensures lent { λ _. ⌜ name (now (self .exit) .events) ≡ name (now (self .entry) .events) ⌝ }
+    {
+        let steps = self.standing;
+        let former = check_sourcing(self.events(), steps, read, write)?;
+        let Graph {
+            events,
+            log,
+            standing,
+            ..
+        } = self;
+        resource(events, (read - INITIAL) as usize, Some(write));
+        log[steps as usize] = Undo::Sourced { read, former };
+        *standing = steps + 1;
+        Ok(steps + 1)
+    }
+}
+
+// Gives the event at `at` another source, in place.
+fn resource(events: &mut [Event], at: usize, source: Option<u8>)
+    requires { ⌜ at < length (now events) ⌝ }
+    ensures { λ _. ⌜ now (events .exit) ≡ set (now (events .entry)) at (with-source (getD (now (events .entry)) at absent) source) ⌝ }
+{
+    events[at].source = source;
+}
