@@ -4,7 +4,7 @@ use mathlib.Core.Path.{_≡_, refl, sym, ap, subst, _∙_}
 use mathlib.Core.Bool.{Bool, true, false, cond, Bool-set}
 use mathlib.Core.HLevel.{⊥-prop, Π-prop, →-prop, ×₃-prop, Discrete, hedberg}
 use mathlib.Core.List.{List, [], _∷_, _++_}
-use mathlib.Core.Logic.{⊎-elim}
+use mathlib.Core.Logic.{⊎-elim, ∥∥₁-elim}
 use native.Mathlib.Bridge.{le-prop}
 use native.Mathlib.Nat.{ℕ-set}
 use native.Mathlib.Omega.{arith}
@@ -20,10 +20,11 @@ use Rattle.graph.specs.declared.code.Code.{Code}
 use Rattle.graph.specs.declared.code.Code.the-variants.{Read, Write, Fence}
 use Rattle.graph.specs.declared.event.Event.{Event}
 use Rattle.graph.specs.declared.refusal.Refusal.{Refusal}
+use Rattle.graph.specs.declared.undo.Undo.{Undo}
 use Rattle.graph.specs.Codes.{is-read, is-write, is-fence}
 use Rattle.graph.specs.Events.{event, fresh, absent, initial-write, Present, Added}
 use Rattle.graph.specs.History.{Step, Outcome, added, sourced, graph, resource, with-source, code-of, first, unless, add-checks, source-checks, attempt}
-use Rattle.graph.specs.Memory.{Ever-proper}
+use Rattle.graph.specs.Memory.{Ever-proper, Tells, Told}
 use Rattle.graph.specs.Proper.{Draws, Fit, Proper}
 use Rattle.graph.proofs.Looking.{event-initial, event-added, event-same}
 
@@ -161,3 +162,10 @@ call-proper room hs (Source r w) h =
     (source-proper (graph hs) (now-proper hs h) r w (a .0) (a .1) (a .2) (a .3) (a .4) (a .5), h))
 call-proper room [] TakeBack h = tt
 call-proper room (s ∷ hs) TakeBack h = h .1
+
+-- a call that does as the history does leaves a memory that some history tells
+pub still-told : (es es′ : List Event) (count count′ : ℕ) (log log′ : List Undo) (standing standing′ : ℕ) (room : ℕ) (c : Call)
+    → ((hs : List Step) → Tells es count log standing hs → Tells es′ count′ log′ standing′ (attempt room hs c .steps))
+    → Told es count log standing → Told es′ count′ log′ standing′
+still-told es es′ count count′ log log′ standing standing′ room c does told =
+    ∥∥₁-elim told squash₁ (λ x. ∣ (attempt room (x .0) c .steps, (does (x .0) (x .1 .0), call-proper room (x .0) c (x .1 .1))) ∣₁)

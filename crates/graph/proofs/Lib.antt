@@ -4,3 +4,4 @@ mod Equality
 mod Fitting
 mod Checking
 mod Standing
+mod Undoing

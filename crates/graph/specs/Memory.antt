@@ -4,6 +4,7 @@
 --   Logged        the log has, for each standing step, what undoes it
 --   Tells         the memory is as the steps hs tell
 --   Ever-proper   the events were proper after each of the steps
+--   Told          some steps tell the memory, and its events were always proper
 --   undone hs es  the slice es once the newest of the steps hs is taken back; the record of an
 --                 added event keeps its content
 use Prim.Native.Nat.{ℕ, _+_, _≤_, _<_, min}
@@ -37,6 +38,9 @@ pub record Tells (es : List Event) (count : ℕ) (log : List Undo) (standing : �
 abbrev pub Ever-proper : List Step → Type 0
 Ever-proper [] = Unit {0}
 Ever-proper (s ∷ hs) = Proper (graph (s ∷ hs)) × Ever-proper hs
+
+abbrev pub Told : List Event → ℕ → List Undo → ℕ → Type 0
+Told es count log standing = ∥ ((hs : List Step) × (Tells es count log standing hs × Ever-proper hs)) ∥₁
 
 abbrev pub undone : List Step → List Event → List Event
 undone [] es = es

@@ -1,10 +1,8 @@
 // An execution graph in lent memory. The struct stands alone, since the definitions that its calls
 // cite name it.
 ghost use denote.Ref.{now};
-ghost use mathlib.Core.List.{List};
 ghost use Prim.Native.Nat.{_≤_};
-ghost use Rattle.graph.specs.History.{Step};
-ghost use Rattle.graph.specs.Memory.{Tells, Ever-proper, room-of};
+ghost use Rattle.graph.specs.Memory.{Told, room-of};
 use crate::event::Event;
 use crate::undo::Undo;
 
@@ -21,5 +19,5 @@ pub struct Graph<'a> {
     standing: u16,
     ghost within: { count ≤ room-of (now events) },
     ghost few: { standing ≤ 256 },
-    ghost told: { ∥ ((hs : List Step) × (Tells (now events) count log standing hs × Ever-proper hs)) ∥₁ },
+    ghost told: { Told (now events) count log standing },
 }

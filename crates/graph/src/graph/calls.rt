@@ -12,7 +12,7 @@ ghost use Rattle.graph.specs.Events.{fresh, absent};
 ghost use Rattle.graph.specs.History.{Step, code-of, resource as «resourced», with-source};
 ghost use Rattle.graph.specs.Holds.{Holds, Does, Equal, added-events, written};
 ghost use Rattle.graph.specs.Lookup.{lookup};
-ghost use Rattle.graph.specs.Memory.{room-of};
+ghost use Rattle.graph.specs.Memory.{room-of, undone};
 ghost use Rattle.graph.specs.Proper.{Proper};
 use super::Graph;
 use crate::call::Call;
@@ -134,6 +134,39 @@ impl<'a> Graph<'a> {
         log[steps as usize] = Undo::Sourced { read, former };
         *standing = steps + 1;
         Ok(steps + 1)
+    }
+
+    /// Undoes the last standing step and answers how many stand then: a read gets its former source
+    /// again; the room of an added event can be used again, and its record keeps its content.
+    /// Refusal: 9.
+    pub fn take_back(&mut self) -> Result<u16, Refused>
+        ensures told { λ r. ⌜ Does Call.TakeBack (now (self .entry)) (now (self .exit)) r ⌝ }
+        ensures slice { λ _. ⌜ ((hs : List Step) → Holds (now (self .entry)) hs → now (now (self .exit) .events) ≡ undone hs (now (now (self .entry) .events))) ⌝ }
+        ensures same { λ r. ⌜ (isErr r ≡ true → now (self .exit) ≡ now (self .entry)) ⌝ }
+        ensures len { λ _. ⌜ length (now (now (self .exit) .events)) ≡ length (now (now (self .entry) .events)) ⌝ }
+        ensures lent { λ _. ⌜ name (now (self .exit) .events) ≡ name (now (self .entry) .events) ⌝ }
+    {
+        if self.standing == 0 {
+            return Err(Refused::plain(Refusal::NoStep));
+        }
+        let last = self.standing - 1;
+        let undo = self.log[last as usize];
+        match undo {
+            Undo::Added => {
+                self.count -= 1;
+                self.standing = last;
+            }
+            Undo::Sourced { read, former } => {
+                let Graph {
+                    events,
+                    standing,
+                    ..
+                } = self;
+                resource(events, (read - INITIAL) as usize, former);
+                *standing = last;
+            }
+        }
+        Ok(last)
     }
 }
 

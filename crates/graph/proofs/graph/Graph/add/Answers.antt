@@ -1,7 +1,6 @@
 -- An addition does as the history does.
 use Prim.Native.Nat.{_+_, _<_}
 use mathlib.Core.Path.{_≡_, refl, sym, ap, subst, _∙_}
-use mathlib.Core.Logic.{∥∥₁-elim}
 use native.Mathlib.Omega.{arith}
 use lib.ListN.{set, length-set}
 use Rattle.std.proofs.shelf.Results.{err-from-errBy}
@@ -11,7 +10,7 @@ use Rattle.graph.specs.declared.call.Call.the-variants.{Add}
 use Rattle.graph.specs.Events.{fresh}
 use Rattle.graph.specs.Memory.{room-of}
 use Rattle.graph.proofs.Checking.{passed-ok}
-use Rattle.graph.proofs.Fitting.{call-proper}
+use Rattle.graph.proofs.Fitting.{still-told}
 use Rattle.graph.proofs.Standing.{add-refused, add-done}
 use Rattle.graph.proofs.graph.Graph.add.Needs as need
 
@@ -35,13 +34,9 @@ ghost-self c =
       (
         omega (arith, ok .fits .1),
         (
-          ∥∥₁-elim (c .args .self .now .told) squash₁ (λ x. ∣ (
-            _,
-            (
-              add-done _ _ _ _ (x .0) (x .1 .0) (c .args .thread) (c .args .code) (c .args .location) (c .args .value) (c .room .result) (c .room .ensures) (c .in-Continue-kind .kind) (ok .value) (ok .fits .0) (ok .fits .1) (c .fresh .result) (c .fresh .ensures) .1,
-              call-proper (room-of es) (x .0) (Add (c .args .thread) (c .args .code) (c .args .location) (c .args .value)) (x .1 .1),
-            ),
-          ) ∣₁),
+          still-told es _ _ _ _ _ _ _ (room-of es) (Add (c .args .thread) (c .args .code) (c .args .location) (c .args .value))
+              (λ hs h. add-done _ _ _ _ hs h _ _ _ _ (c .room .result) (c .room .ensures) (c .in-Continue-kind .kind) (ok .value) (ok .fits .0) (ok .fits .1) (c .fresh .result) (c .fresh .ensures) .1)
+              (c .args .self .now .told),
           tt,
         ),
       ),

@@ -1,7 +1,6 @@
 -- A sourcing does as the history does.
 use Prim.Native.Nat.{_+_, _-_, _<_}
 use mathlib.Core.Path.{_≡_, refl, sym, ap, subst, _∙_}
-use mathlib.Core.Logic.{∥∥₁-elim}
 use native.Mathlib.Omega.{arith}
 use lib.ListN.{length, getD, length-set}
 use Rattle.std.proofs.shelf.Results.{err-from-errBy}
@@ -12,7 +11,7 @@ use Rattle.graph.specs.declared.call.Call.the-variants.{Source}
 use Rattle.graph.specs.Events.{absent}
 use Rattle.graph.specs.History.{with-source}
 use Rattle.graph.specs.Memory.{room-of}
-use Rattle.graph.proofs.Fitting.{call-proper}
+use Rattle.graph.proofs.Fitting.{still-told}
 use Rattle.graph.proofs.Standing.{source-refused, source-done}
 use Rattle.graph.proofs.graph.Graph.source.Needs as need
 
@@ -37,13 +36,9 @@ ghost-self c =
       (
         omega (arith, ok .fits .2),
         (
-          ∥∥₁-elim (c .args .self .now .told) squash₁ (λ x. ∣ (
-            _,
-            (
-              source-done _ _ _ _ (x .0) (x .1 .0) (room-of es) (c .args .read) (c .args .write) (c .events .result .now) (c .events .ensures .value) (c .in-Continue-former .former) (ok .value) (ok .fits .0) (ok .fits .1) (ok .fits .2) (c .resource .last .events) (c .resource .ensures) .1,
-              call-proper (room-of es) (x .0) (Source (c .args .read) (c .args .write)) (x .1 .1),
-            ),
-          ) ∣₁),
+          still-told es _ _ _ _ _ _ _ (room-of es) (Source (c .args .read) (c .args .write))
+              (λ hs h. source-done _ _ _ _ hs h (room-of es) _ _ (c .events .result .now) (c .events .ensures .value) (c .in-Continue-former .former) (ok .value) (ok .fits .0) (ok .fits .1) (ok .fits .2) (c .resource .last .events) (c .resource .ensures) .1)
+              (c .args .self .now .told),
           tt,
         ),
       ),
@@ -55,7 +50,7 @@ returns c =
     let at = c .args .read - 8 in
     let ok = c .in-Continue-former .ensures tt in
     record {
-      told = λ hs h. source-done _ _ _ _ hs h (room-of es) (c .args .read) (c .args .write) (c .events .result .now) (c .events .ensures .value) (c .in-Continue-former .former) (ok .value) (ok .fits .0) (ok .fits .1) (ok .fits .2) (c .resource .last .events) (c .resource .ensures);
+      told = λ hs h. source-done _ _ _ _ hs h (room-of es) _ _ (c .events .result .now) (c .events .ensures .value) (c .in-Continue-former .former) (ok .value) (ok .fits .0) (ok .fits .1) (ok .fits .2) (c .resource .last .events) (c .resource .ensures);
       slice = c .resource .ensures;
       same = λ e. absurd (false≢true e);
       len = ap length (c .resource .ensures) ∙ length-set es at (with-source (getD es at absent) (Some (c .args .write)));
