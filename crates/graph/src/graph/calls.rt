@@ -168,6 +168,26 @@ impl<'a> Graph<'a> {
         }
         Ok(last)
     }
+
+    /// Makes one call and gives its answer.
+    pub fn perform(&mut self, call: Call) -> Result<u16, Refused>
+        ensures told { λ r. ⌜ Does call (now (self .entry)) (now (self .exit)) r ⌝ }
+        ensures slice { λ r. ⌜ ((hs : List Step) → Holds (now (self .entry)) hs → now (now (self .exit) .events) ≡ cond (isOk r) (written call (now (self .entry)) hs) (now (now (self .entry) .events))) ⌝ }
+        ensures same { λ r. ⌜ (isErr r ≡ true → now (self .exit) ≡ now (self .entry)) ⌝ }
+        ensures len { λ _. ⌜ length (now (now (self .exit) .events)) ≡ length (now (now (self .entry) .events)) ⌝ }
+        ensures lent { λ _. ⌜ name (now (self .exit) .events) ≡ name (now (self .entry) .events) ⌝ }
+    {
+        match call {
+            Call::Add {
+                thread,
+                code,
+                location,
+                value,
+            } => Ok(u16::from(self.add(thread, code, location, value)?)),
+            Call::Source { read, write } => self.source(read, write),
+            Call::TakeBack => self.take_back(),
+        }
+    }
 }
 
 // Gives the event at `at` another source, in place.
