@@ -7,6 +7,7 @@ use crate::event::Event;
 use crate::undo::Undo;
 
 mod calls;
+mod views;
 
 /// A graph: the initial writes, and events added in a slice that the caller lends.
 #[derive(Drop)]

@@ -1,34 +1,26 @@
-// The calls on a graph.
+// The calls that change a graph.
 ghost use denote.Ref.{name};
 ghost use mathlib.Core.Path.{_≡_};
 ghost use mathlib.Core.Bool.{true, cond};
 ghost use mathlib.Core.List.{List, []};
-ghost use Prim.Native.Nat.{_-_, _≤_, _<_};
+ghost use Prim.Native.Nat.{_<_};
 ghost use lib.ListN.{length, getD, set};
-ghost use Rattle.std.specs.Orderings.{Decides};
 ghost use Rattle.std.specs.Results.{isOk, isErr};
 ghost use Rattle.std.specs.declared.option.Option.the-variants.{Some};
 ghost use Rattle.graph.specs.Events.{fresh, absent};
 ghost use Rattle.graph.specs.History.{Step, code-of, resource as «resourced», with-source};
-ghost use Rattle.graph.specs.Holds.{Holds, Does, Equal, added-events, written};
-ghost use Rattle.graph.specs.Lookup.{lookup};
-ghost use Rattle.graph.specs.Memory.{room-of, undone};
-ghost use Rattle.graph.specs.Proper.{Proper};
+ghost use Rattle.graph.specs.Holds.{Holds, Does, written};
+ghost use Rattle.graph.specs.Memory.{undone};
 use super::Graph;
 use crate::call::Call;
 use crate::checks::check_addition;
 use crate::checks::check_sourcing;
 use crate::event::Event;
-use crate::event::EventPartialEq;
 use crate::event::INITIAL;
-use crate::lookup::event_at;
 use crate::refusal::Refusal;
 use crate::refusal::Refused;
 use crate::refusal::RefusedFromRefusal;
 use crate::undo::Undo;
-
-/// The most events that a graph can have besides the initial writes.
-pub const MOST_EVENTS: usize = 56;
 
 impl<'a> Graph<'a> {
     /// A graph with no added event and no step, whatever the slice holds. Nothing is written.
@@ -45,48 +37,6 @@ impl<'a> Graph<'a> {
         }
     }
 
-    /// How many events can be added in all: 56, or the length of the slice if that is less.
-    pub fn room(&self) -> u8
-        ensures { λ r. ⌜ r ≡ room-of (now (now (self .entry) .events)) ⌝ }
-    {
-        let len = self.events.len();
-        if len < MOST_EVENTS { len as u8 } else { 56 }
-    }
-
-    /// How many steps stand: additions and sourcings that were not taken back.
-    pub fn standing(&self) -> u16
-        ensures value { λ r. ⌜ r ≡ now (self .entry) .standing ⌝ }
-        ensures told { λ r. ⌜ ((hs : List Step) → Holds (now (self .entry)) hs → r ≡ length hs) ⌝ }
-        ensures few { λ r. ⌜ r ≤ 256 ⌝ }
-    {
-        self.standing
-    }
-
-    /// The added events, in the order of their addition.
-    pub fn events(&self) -> &[Event]
-        ensures value { λ r. ⌜ now r ≡ added-events (now (self .entry)) ⌝ }
-        ensures proper { λ r. ⌜ Proper (now r) ⌝ }
-        ensures few { λ r. ⌜ length (now r) ≤ 56 ⌝ }
-    {
-        &self.events[0..self.count as usize]
-    }
-
-    /// The event of a number, initial writes too, where it is present.
-    pub fn find(&self, number: u8) -> Option<Event>
-        ensures { λ r. ⌜ r ≡ lookup (added-events (now (self .entry))) number ⌝ }
-    {
-        event_at(self.events(), number)
-    }
-
-    /// Have both graphs the same added events, with the same sources?
-    pub fn same_as(&self, other: &Graph) -> bool
-        ensures { λ r. ⌜ Decides r (Equal (now (self .entry)) (now (other .entry))) ⌝ }
-    {
-        self.events() == other.events()
-    }
-}
-
-impl<'a> Graph<'a> {
     /// Adds an event and answers its number. A read starts with the initial write of its location.
     /// Refusals, in this order: 2, 3, 4, 5, 1, 6.
     pub fn add(&mut self, thread: u8, code: u8, location: u8, value: u32) -> Result<u8, Refused>
