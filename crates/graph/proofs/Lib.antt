@@ -1,1 +1,7 @@
 pub mod Deciding
+mod Looking
+mod Equality
+mod Fitting
+mod Checking
+mod Standing
+mod Undoing

@@ -1,3 +1,10 @@
 pub mod Codes
 pub mod Events
 pub mod Order
+pub mod Lookup
+pub mod Refusals
+pub mod History
+pub mod Proper
+pub mod Checked
+pub mod Memory
+pub mod Holds

@@ -5,9 +5,9 @@ ghost use lib.ListN.{length};
 ghost use Prim.Native.Nat.{_+_, _<_};
 ghost use Rattle.graph.specs.Events.{event, fresh, initial-write};
 use crate::code::Code;
-use crate::code::WriteMode;
 use crate::code::CodeDebug;
 use crate::code::CodePartialEq;
+use crate::code::WriteMode;
 
 /// How many initial writes there are, and the number of the first added event.
 pub const INITIAL: u8 = 8;

@@ -1,0 +1,3 @@
+// Tests of the crate `graph`, in a crate of their own.
+#[cfg(test)]
+mod tests;
