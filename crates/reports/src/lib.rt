@@ -1,2 +1,4 @@
 // What the program reads and says, apart from reaching outside.
+pub mod drawing;
+pub mod script;
 pub mod step_list;

@@ -1,0 +1,3 @@
+// The relations of an execution graph as tables, and the two axioms.
+pub mod relation;
+pub mod source_steps;
