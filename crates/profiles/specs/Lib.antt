@@ -1,0 +1,4 @@
+pub mod Meaning
+pub mod Threads
+pub mod Laws
+pub mod Strict

@@ -1,0 +1,13 @@
+-- What a profile means, as one value.
+--
+--   Meaning   two sets of pairs of events for each list of added events, each given by its test:
+--   kept      a is kept before b
+--   pushed    a is pushed to b
+use Prim.Native.Nat.{ℕ}
+use mathlib.Core.Bool.{Bool}
+use mathlib.Core.List.{List}
+use Rattle.graph.specs.declared.event.Event.{Event}
+
+pub record Meaning : Type 0 where
+  pub kept : List Event → ℕ → ℕ → Bool
+  pub pushed : List Event → ℕ → ℕ → Bool
