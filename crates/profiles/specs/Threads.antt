@@ -2,7 +2,8 @@
 --
 --   Sketch            an event without its source
 --   sketch e          the sketch of e
---   in-thread t es    the events of es that are of thread t
+--   in-thread t es    the events of es that are of thread t, in order
+--   codes-of t es     their codes
 --   sequence es b     b's thread up to b and with it, in order, without sources
 --   place es a b      where a stands in that: the number that a has if every other thread is left
 --                     out. So an initial write keeps its number, and the first event of b's
@@ -32,6 +33,9 @@ sketch e = record { thread = e .thread; code = e .code; location = e .location; 
 
 abbrev pub in-thread : ℕ → List Event → List Event
 in-thread t es = kept-by (λ e. eqb (e .thread) t) es
+
+abbrev pub codes-of : ℕ → List Event → List Code
+codes-of t es = map (λ e. e .code) (in-thread t es)
 
 -- the events numbered 8 to b are the first b - 7 of the list
 unfoldable pub sequence : List Event → ℕ → List Sketch
