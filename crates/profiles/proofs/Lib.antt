@@ -1,8 +1,9 @@
 pub mod Ordered
-mod StrictLaws
-pub mod Patterns
-mod Scanning
+pub mod Fences
 pub mod Between
 pub mod SegmentLaws
 pub mod Jam21Rules
-pub mod Summaries
+mod StrictLaws
+mod Patterns
+mod Scanning
+mod Summaries

@@ -67,9 +67,9 @@ module _ (es : List Event) (a b : ℕ) (p : Po es a b) where
       ⊎-elim
       (λ l. let none : a - 7 ≡ 0 = omega arith in rw (place-initial l, none))
       (λ l.
-        let added = added-first es a b p l in
-        let fore = in-thread (event es b .thread) (take (a - 8) es) in
-        omega (arith, ap length (thread-more es (event es b .thread) a l (added .1) (mate-first l)), length-push fore (event es a), place-added l))
+      let added = added-first es a b p l in
+      let fore = in-thread (event es b .thread) (take (a - 8) es) in
+      omega (arith, ap length (thread-more es (event es b .thread) a l (added .1) (mate-first l)), length-push fore (event es a), place-added l))
       (cases-lt a 8)
 
   inner-is : map sketch (between es a b) ≡ drop (place es a b - 7) before
@@ -98,13 +98,13 @@ module _ (xs : List Event) (a b : ℕ) (ys : List Event) (c d : ℕ) (h : Alike 
   same-first =
       let added = added-alike xs a b ys c d h in
       ⊎-elim
-      (λ l. 
-        let too : c < 8 = grind (arith, tells) in
-        let same : a ≡ c = sym (place-initial xs a b (h .ordered) l) ∙ h .same-place ∙ place-initial ys c d (h .ordered-too) too in
-        ap sketch (event-initial xs a l ∙ ap initial-write same ∙ sym (event-initial ys c too)))
       (λ l.
-        let too : 8 ≤ c = grind (arith, tells) in
-        first-is xs a b (h .ordered) l ∙ ap₂ (λ m n. getD m (n - 8) (sketch absent)) (same-before .0) (h .same-place) ∙ sym (first-is ys c d (h .ordered-too) too))
+      let too : c < 8 = grind (arith, tells) in
+      let same : a ≡ c = sym (place-initial xs a b (h .ordered) l) ∙ h .same-place ∙ place-initial ys c d (h .ordered-too) too in
+      ap sketch (event-initial xs a l ∙ ap initial-write same ∙ sym (event-initial ys c too)))
+      (λ l.
+      let too : 8 ≤ c = grind (arith, tells) in
+      first-is xs a b (h .ordered) l ∙ ap₂ (λ m n. getD m (n - 8) (sketch absent)) (same-before .0) (h .same-place) ∙ sym (first-is ys c d (h .ordered-too) too))
       (cases-lt a 8)
 
   same-inner : map sketch (between xs a b) ≡ map sketch (between ys c d)
@@ -122,8 +122,8 @@ by-segment-lawful keep push narrower = record {
   ordered = λ es a b e. po-decides es a b .0 (and-parts (po es a b) (keep (segment es a b)) e .0);
   narrower = λ es a b e. let h = and-parts (po es a b) (push (segment es a b)) (and-parts (leb 8 a) _ e .1) in and-from (po es a b) (keep (segment es a b)) (h .0) (narrower (segment es a b) (h .1));
   from-added = λ es a b e.
-    let h = and-parts (leb 8 a) (po es a b && push (segment es a b)) e in
-    added-first es a b (po-decides es a b .0 (and-parts (po es a b) (push (segment es a b)) (h .1) .0)) (leb-true 8 a (h .0));
+      let h = and-parts (leb 8 a) (po es a b && push (segment es a b)) e in
+      added-first es a b (po-decides es a b .0 (and-parts (po es a b) (push (segment es a b)) (h .1) .0)) (leb-true 8 a (h .0));
   kept-alike = λ xs a b ys c d h. ap₂ _&&_ (po-alike xs a b ys c d h) (ap keep (segment-alike xs a b ys c d h));
   pushed-alike = λ xs a b ys c d h. ap₂ _&&_ (added-alike xs a b ys c d h) (ap₂ _&&_ (po-alike xs a b ys c d h) (ap push (segment-alike xs a b ys c d h)));
 }

@@ -2,7 +2,6 @@
 --
 --   Between es a n b       n stands strictly between a and b in program order
 --   between es a b         the events strictly between a and b, in order, for a pair in program order
---   codes-between es a b   their codes
 --   Segment                what stands from a to b, with neither numbers nor sources:
 --   initial                whether a is an initial write
 --   first, last            a and b
@@ -32,9 +31,6 @@ pub record Between (es : List Event) (a n b : ℕ) : Type 0 where
 -- which are none for an initial write
 unfoldable pub between : List Event → ℕ → ℕ → List Event
 between es a b = in-thread (event es b .thread) (drop (a - 7) (take (b - 8) es))
-
-unfoldable pub codes-between : List Event → ℕ → ℕ → List Code
-codes-between es a b = map (λ e. e .code) (between es a b)
 
 pub record Segment : Type 0 where
   pub initial : Bool

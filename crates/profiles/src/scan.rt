@@ -1,11 +1,16 @@
 // The scan of what stands between two events: a small machine, fed one code after the other.
 ghost use mathlib.Core.Path.{_≡_};
-ghost use mathlib.Core.List.{List, [], _∷_, _++_};
+ghost use mathlib.Core.Bool.{cond, _||_};
+ghost use mathlib.Core.List.{[]};
+ghost use Prim.Native.Nat.{_-_};
+ghost use Rattle.std.specs.Holes.{between as part};
 ghost use Rattle.std.specs.Options.{Cases};
-ghost use Rattle.graph.specs.declared.code.Code.{Code};
+ghost use Rattle.graph.specs.Events.{event, Present};
 ghost use Rattle.graph.specs.Order.{Po};
+ghost use Rattle.profiles.specs.Modes.{marks, is-sc-fence};
+ghost use Rattle.profiles.specs.Segments.{segment, inner-codes};
 ghost use Rattle.profiles.specs.Threads.{codes-of};
-ghost use Rattle.profiles.specs.Scans.{completes, Met, Sums};
+ghost use Rattle.profiles.specs.Scans.{awaits, further, completes, Met, Sums};
 use crate::mode::is_marking;
 use crate::mode::is_sc_fence;
 use graph::code::Code;
@@ -26,10 +31,9 @@ pub enum Stage {
 }
 
 impl Stage {
-    /// The stage after one more event: the codes that complete it are those that complete `self`
-    /// with `code` before them.
+    /// The stage after one more event: a stage moves on exactly at what it waits for.
     pub fn next(self, code: Code) -> Stage
-        ensures { λ r. ⌜ ((more : List Code) → completes r more ≡ completes self (code ∷ more)) ⌝ }
+        ensures { λ r. ⌜ r ≡ cond (awaits self code) (further self) self ⌝ }
     {
         match (self, code) {
             (Stage::Waiting, Code::Fence(FenceMode::Rel)) => Stage::Released,
@@ -70,7 +74,9 @@ impl Scan {
 
     /// The scan after one more event.
     pub fn step(self, code: Code) -> Scan
-        ensures { λ r. ⌜ ((cs : List Code) → Met self cs → Met r (cs ++ code ∷ [])) ⌝ }
+        ensures marked { λ r. ⌜ r .marked ≡ (self .marked || marks code) ⌝ }
+        ensures fenced { λ r. ⌜ r .fenced ≡ (self .fenced || is-sc-fence code) ⌝ }
+        ensures stage { λ r. ⌜ r .stage ≡ cond (awaits (self .stage) code) (further (self .stage)) (self .stage) ⌝ }
     {
         Scan {
             marked: self.marked | is_marking(code),
@@ -105,25 +111,46 @@ impl Summary {
     /// The summary of a pair in program order, and `None` for any other pair. It costs one scan
     /// of the events between `a` and `b`.
     pub fn of(events: &[Event], a: u8, b: u8) -> Option<Summary>
-        ensures { λ r. ⌜ Cases r (Po (now (events .entry)) a b → ⊥) (λ s. Po (now (events .entry)) a b × Sums s (now (events .entry)) a b) ⌝ }
+        ensures { λ r. ⌜ Cases r (Po (now (events .entry)) a b → ⊥) (λ s. Po (now (events .entry)) a b × Sums s (segment (now (events .entry)) a b)) ⌝ }
     {
         if !precedes(events, a, b) {
             return None;
         }
-        let end = (b - INITIAL) as usize;
-        let last = events[end];
-        if a < INITIAL {
-            return Some(Summary {
-                first: Event::initial(a).code,
-                last: last.code,
-                met: Scan::of_thread(&events[0..end], last.thread),
-            });
-        }
-        let start = (a - INITIAL) as usize;
         Some(Summary {
-            first: events[start].code,
-            last: last.code,
-            met: Scan::of_thread(&events[start + 1..end], last.thread),
+            first: code_at(events, a),
+            last: code_at(events, b),
+            met: scan_between(events, a, b),
         })
     }
+}
+
+// The code of a present event.
+fn code_at(events: &[Event], n: u8) -> Code
+    requires { ⌜ Present (now events) n ⌝ }
+    ensures { λ r. ⌜ r ≡ event (now (events .entry)) n .code ⌝ }
+{
+    if n < INITIAL {
+        Event::initial(n).code
+    } else {
+        events[(n - INITIAL) as usize].code
+    }
+}
+
+// The part of the list from the event after `a` to the one before `b`, whatever their threads.
+fn part_between(events: &[Event], a: u8, b: u8) -> &[Event]
+    requires { ⌜ Po (now events) a b ⌝ }
+    ensures { λ r. ⌜ now r ≡ part (a - 7) (b - 8) (now (events .entry)) ⌝ }
+{
+    let start = if a < INITIAL { INITIAL } else { a + 1 };
+    &events[(start - INITIAL) as usize..(b - INITIAL) as usize]
+}
+
+fn scan_between(events: &[Event], a: u8, b: u8) -> Scan
+    requires { ⌜ Po (now events) a b ⌝ }
+    ensures { λ r. ⌜ Met r (inner-codes (segment (now (events .entry)) a b)) ⌝ }
+{
+    Scan::of_thread(
+        part_between(events, a, b),
+        events[(b - INITIAL) as usize].thread,
+    )
 }
