@@ -1,0 +1,9 @@
+pub mod Ordered
+pub mod Fences
+pub mod Between
+pub mod SegmentLaws
+pub mod Jam21Rules
+mod StrictLaws
+mod Patterns
+mod Scanning
+mod Summaries

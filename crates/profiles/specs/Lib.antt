@@ -1,0 +1,10 @@
+pub mod Meaning
+pub mod Threads
+pub mod Laws
+pub mod Strict
+pub mod Segments
+pub mod Modes
+pub mod Patterns
+pub mod Scans
+pub mod Rules
+pub mod Jam21
