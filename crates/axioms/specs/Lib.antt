@@ -1,2 +1,4 @@
+pub mod Orders
+pub mod Relations
+pub mod Rules
 pub mod Tables
-pub mod Sources

@@ -1,3 +1,4 @@
 // The relations of an execution graph as tables, and the two axioms.
 pub mod relation;
+pub mod rule;
 pub mod source_steps;

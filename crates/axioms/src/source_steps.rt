@@ -1,6 +1,6 @@
 // The steps of program order and reads-from.
 ghost use denote.Ref.{now};
-ghost use Rattle.axioms.specs.Sources.{SourceStep};
+ghost use Rattle.axioms.specs.Relations.{SourceStep};
 use crate::relation::Relation;
 use graph::event::Event;
 use graph::order::precedes;
