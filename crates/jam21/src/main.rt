@@ -1,7 +1,13 @@
-// Reads a list of steps between numbered events, one `from to` to a line, and says which events lie on a cycle.
-use reports::step_list::BadStepDisplay;
-use reports::step_list::StepList;
-use reports::step_list::read_step;
+// Draws the execution graph of a script of calls, and looks for cycles.
+mod graphs;
+mod lists;
+
+use reports::options::BadOption;
+use reports::options::BadOptionDisplay;
+use reports::options::HELP;
+use reports::options::Input;
+use reports::options::Options;
+use std::env;
 use std::error::AnyError;
 
 fn main(rt: LibcRuntime) -> Result<(), AnyError> {
@@ -9,51 +15,46 @@ fn main(rt: LibcRuntime) -> Result<(), AnyError> {
 }
 
 fn run(rt: &LibcRuntime) -> Result<(), AnyError> {
-    let list = read_steps(rt)?;
-    report_cycles(rt, &list)
+    let options = read_options(rt)?;
+    if options.help {
+        print!(rt, "{HELP}")?;
+        return Ok(());
+    }
+    match options.input {
+        Input::Script => graphs::run_script(rt, options),
+        Input::Steps => lists::run_steps(rt),
+    }
 }
 
-fn read_steps(rt: &LibcRuntime) -> Result<StepList, AnyError> {
-    let mut list = StepList::new();
-    let mut number = 0u64;
-    for line in rt.lines(rt.alloc()) {
-        let text = line?;
-        number = number.saturating_add(1);
-        let noted = match read_step(text.as_str()) {
-            Ok(Some((from, to))) => list.add(from, to),
-            Ok(None) => Ok(()),
-            Err(why) => Err(why),
+fn read_options(rt: &LibcRuntime) -> Result<Options, AnyError> {
+    let mut options = Options::new();
+    let mut words = env::args(rt)?;
+    // The first word is the program's own name.
+    let _ = words.next();
+    let mut named = true;
+    for word in words {
+        let text = word.as_str();
+        let more = if !named {
+            named = true;
+            options.with_profile(text)
+        } else if text == "--profile" {
+            named = false;
+            Ok(options)
+        } else {
+            options.with(text)
         };
-        if let Err(why) = noted {
-            let message = format!(rt.alloc(), "line {number}: {why}")?;
-            return Err(message.into());
-        }
-    }
-    Ok(list)
-}
-
-fn report_cycles(rt: &LibcRuntime, list: &StepList) -> Result<(), AnyError> {
-    let through = list.shortest_cycles();
-    let mut events = 0u8;
-    for event in 0..64u8 {
-        if list.names(event) {
-            events = events.saturating_add(1);
-        }
-    }
-    let steps = list.count();
-    println!(rt, "{events} events, {steps} steps")?;
-    for event in 0..64u8 {
-        if list.names(event) {
-            let fewest = through[event as usize];
-            if fewest > 64 {
-                println!(rt, "event {event} lies on no cycle")?;
-            } else {
-                println!(
-                    rt,
-                    "event {event} lies on a cycle; the shortest through it has {fewest} steps"
-                )?;
+        options = match more {
+            Ok(known) => known,
+            Err(why) => {
+                let message = format!(rt.alloc(), "{word}: {why}")?;
+                return Err(message.into());
             }
-        }
+        };
     }
-    Ok(())
+    if !named {
+        let why = BadOption::NoProfile;
+        let message = format!(rt.alloc(), "{why}")?;
+        return Err(message.into());
+    }
+    Ok(options)
 }
