@@ -2,6 +2,7 @@ pub mod Ordered
 pub mod Fences
 pub mod Between
 pub mod SegmentLaws
+pub mod Lasts
 pub mod Jam21Rules
 mod StrictLaws
 mod Patterns
