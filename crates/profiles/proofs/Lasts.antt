@@ -1,4 +1,4 @@
--- The answers of every lawful profile outlast sourcing and addition.
+-- The answers of every lawful profile outlast sourcing and addition, and are those of one thread alone.
 use Prim.Native.Nat.{ℕ, _+_, _-_, _<_, _≤_}
 use native.Mathlib.Omega.{arith}
 use mathlib.Core.Path.{_≡_, refl, sym, ap, ap₂, _∙_}
@@ -17,7 +17,8 @@ use Rattle.graph.specs.Order.{Po}
 use Rattle.profiles.specs.Meaning.{Meaning}
 use Rattle.profiles.specs.Laws.{Lawful}
 use Rattle.profiles.specs.Lasting.{Lasting}
-use Rattle.profiles.specs.Threads.{Sketch, sketch, in-thread, sequence, place, Alike}
+use Rattle.profiles.specs.Threads.{Sketch, sketch, in-thread, alone, sequence, place, Alike}
+use Rattle.profiles.proofs.Alone.{alone-alike}
 use Rattle.profiles.proofs.Fences.{itself}
 use Rattle.profiles.proofs.Ordered.{event-added, event-initial}
 
@@ -67,7 +68,7 @@ module _ (es more : List Event) where
       }
 
   grown-alike : (a b : ℕ) → Po es a b → Alike (es ++ more) a b es a b
-  unfolding sequence place
+  unfolding sequence alone place
   grown-alike a b p =
       let at-b = ap (λ x. x .thread) (event-grown b (p .added .1)) in
       let to-b = take-append-le (b - 7) es more (omega (arith, p .added .0, p .added .1)) in
@@ -127,7 +128,7 @@ module _ (xs ys : List Event) (same : map sketch xs ≡ map sketch ys) where
   }
 
   sourced-alike : (a b : ℕ) → Po xs a b → Alike xs a b ys a b
-  unfolding sequence place
+  unfolding sequence alone place
   sourced-alike a b p = record {
     ordered = p;
     ordered-too = sourced-po a b p;
@@ -145,4 +146,7 @@ lasting m l = record {
       let back = grown-alike es more a b in
       let there = λ (p : Po (es ++ more) a b). back (ungrown-po es more a b h p) in
       (same-kept m l (es ++ more) a b es a b there back, same-pushed m l (es ++ more) a b es a b there back);
+  one-thread = λ es a b p.
+      let h = alone-alike es a b p in
+      (l .kept-alike es a b (alone es b) (place es a b) (place es b b) h, l .pushed-alike es a b (alone es b) (place es a b) (place es b b) h);
 }

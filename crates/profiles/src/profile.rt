@@ -25,8 +25,8 @@ pub trait Profile {
         ensures { λ r. ⌜ r ≡ meaning (now (self .entry)) .pushed (now (events .entry)) a b ⌝ };
 }
 
-/// The theorem that the answers of every profile last: neither another source nor a later event
-/// changes one. It is for callers' proofs; the number that comes back says nothing.
+/// The theorem that the answers of every profile last: no other source, no later event and no other
+/// thread changes one. It is for callers' proofs; the number that comes back says nothing.
 pub fn answers_last<P: Profile>(profile: &P) -> u8
     ensures { λ _. ⌜ Lasting (meaning (now (profile .entry))) ⌝ }
 {
