@@ -8,4 +8,4 @@ pub mod Jam21Rules
 mod StrictLaws
 mod Patterns
 mod Scanning
-mod Summaries
+pub mod Summaries
