@@ -1,5 +1,5 @@
 -- Facts about events and pairs in program order that serve every profile.
-use Prim.Native.Nat.{ℕ, _-_, _<_, _≤_}
+use Prim.Native.Nat.{ℕ, _+_, _-_, _<_, _≤_}
 use native.Mathlib.Omega.{arith}
 use mathlib.Core.Path.{_≡_, sym, _∙_}
 use mathlib.Core.Logic.{inl, inr, ⊎-elim}
@@ -8,7 +8,7 @@ use mathlib.Core.List.{List}
 use lib.Dec.{leb}
 use lib.ListN.{length, getD, take}
 use Rattle.std.specs.Orderings.{Decides}
-use Rattle.std.proofs.shelf.Tests.{and-parts, and-from}
+use Rattle.std.proofs.shelf.Tests.{and-parts, and-from, lt-ltb, le-ltb}
 use Rattle.std.proofs.shelf.Ways.{tells}
 use Rattle.graph.specs.declared.event.Event.{Event}
 use Rattle.graph.specs.Events.{event, initial-write, absent, Added}
@@ -42,6 +42,14 @@ decides-under es a b r ordered under = (
 
 pub po-alike : (xs : List Event) (a b : ℕ) (ys : List Event) (c d : ℕ) → Alike xs a b ys c d → po xs a b ≡ po ys c d
 po-alike xs a b ys c d h = po-decides xs a b .1 (h .ordered) ∙ sym (po-decides ys c d .1 (h .ordered-too))
+
+pub place-added : (es : List Event) (a b : ℕ) → 8 ≤ a → place es a b ≡ 8 + length (in-thread (event es b .thread) (take (a - 8) es))
+unfolding place
+place-added es a b l = rw (le-ltb a 8 l)
+
+pub place-initial : (es : List Event) (a b : ℕ) → a < 8 → place es a b ≡ a
+unfolding place
+place-initial es a b l = rw (lt-ltb a 8 l)
 
 -- the place tells whether it is an initial write
 leb-place : (es : List Event) (a b : ℕ) → leb 8 (place es a b) ≡ leb 8 a

@@ -9,19 +9,19 @@ use lib.Dec.{leb, ltb, eqb}
 use lib.ListN.{length, getD, take, drop}
 use Rattle.std.proofs.shelf.Elements.{kept-by-append, kept-by-more}
 use Rattle.std.proofs.shelf.Lists.{map-append, length-map, length-push, take-append-drop, take-take, drop-at, getD-at, same-from-push}
-use Rattle.std.proofs.shelf.Tests.{and-parts, and-from, cases-lt, eq-eqb, leb-true, lt-ltb, le-ltb}
+use Rattle.std.proofs.shelf.Tests.{and-parts, and-from, cases-lt, eq-eqb, leb-true}
 use Rattle.std.proofs.shelf.Ways.{tells}
 use Rattle.graph.specs.declared.event.Event.{Event}
 use Rattle.graph.specs.Events.{event, absent, initial-write}
 use Rattle.graph.specs.Order.{Po, po}
 use Rattle.graph.proofs.Deciding.{po-decides}
 use Rattle.profiles.specs.Laws.{Lawful}
-use Rattle.profiles.specs.Threads.{Sketch, sketch, in-thread, sequence, place, Alike}
+use Rattle.profiles.specs.Threads.{Sketch, sketch, in-thread, alone, sequence, place, Alike}
 use Rattle.profiles.specs.Segments.{between, Segment, segment, by-segment}
-use Rattle.profiles.proofs.Ordered.{event-added, event-initial, added-first, po-alike, added-alike}
+use Rattle.profiles.proofs.Ordered.{place-added, place-initial, event-added, event-initial, added-first, po-alike, added-alike}
 
 module _ (es : List Event) (t : ℕ) where
-  thread-more : (n : ℕ) → 8 ≤ n → n < length es + 8 → event es n .thread ≡ t → in-thread t (take (n - 7) es) ≡ in-thread t (take (n - 8) es) ++ event es n ∷ []
+  pub thread-more : (n : ℕ) → 8 ≤ n → n < length es + 8 → event es n .thread ≡ t → in-thread t (take (n - 7) es) ≡ in-thread t (take (n - 8) es) ++ event es n ∷ []
   thread-more n low high mate =
       let here = event-added es n low in
       let one : n - 7 ≡ n - 8 + 1 = omega arith in
@@ -35,7 +35,7 @@ module _ (es : List Event) (a b : ℕ) (p : Po es a b) where
   before = map sketch (in-thread (event es b .thread) (take (b - 8) es))
 
   sequence-split : sequence es b ≡ before ++ sketch (event es b) ∷ []
-  unfolding sequence before
+  unfolding sequence alone before
   sequence-split = ap (map sketch) (thread-more es (event es b .thread) b (p .added .0) (p .added .1) refl) ∙ map-append sketch (in-thread (event es b .thread) (take (b - 8) es)) _
 
   front : List Event
@@ -50,26 +50,18 @@ module _ (es : List Event) (a b : ℕ) (p : Po es a b) where
       ap (in-thread t) (sym (take-append-drop (a - 7) l)) ∙ kept-by-append (λ e. eqb (e .thread) t) (take (a - 7) l) (drop (a - 7) l)
       ∙ ap (λ m. in-thread t m ++ in-thread t (drop (a - 7) l)) (take-take (a - 7) (b - 8) es short)
 
-  mate-first : 8 ≤ a → event es a .thread ≡ event es b .thread
+  pub mate-first : 8 ≤ a → event es a .thread ≡ event es b .thread
   mate-first l = ⊎-elim (λ k. absurd (omega arith)) (λ e. e) (p .joined)
-
-  place-added : 8 ≤ a → place es a b ≡ 8 + length (in-thread (event es b .thread) (take (a - 8) es))
-  unfolding place
-  place-added l = rw (le-ltb a 8 l)
-
-  place-initial : a < 8 → place es a b ≡ a
-  unfolding place
-  place-initial l = rw (lt-ltb a 8 l)
 
   front-length : length front ≡ place es a b - 7
   unfolding front
   front-length =
       ⊎-elim
-      (λ l. let none : a - 7 ≡ 0 = omega arith in rw (place-initial l, none))
+      (λ l. let none : a - 7 ≡ 0 = omega arith in rw (place-initial es a b l, none))
       (λ l.
       let added = added-first es a b p l in
       let fore = in-thread (event es b .thread) (take (a - 8) es) in
-      omega (arith, ap length (thread-more es (event es b .thread) a l (added .1) (mate-first l)), length-push fore (event es a), place-added l))
+      omega (arith, ap length (thread-more es (event es b .thread) a l (added .1) (mate-first l)), length-push fore (event es a), place-added es a b l))
       (cases-lt a 8)
 
   inner-is : map sketch (between es a b) ≡ drop (place es a b - 7) before
@@ -78,16 +70,20 @@ module _ (es : List Event) (a b : ℕ) (p : Po es a b) where
       let split = ap (map sketch) thread-split ∙ map-append sketch front (between es a b) in
       sym (ap (drop (place es a b - 7)) split ∙ drop-at (map sketch front) (map sketch (between es a b)) (place es a b - 7) (length-map front sketch ∙ front-length))
 
-  first-is : 8 ≤ a → sketch (event es a) ≡ getD before (place es a b - 8) (sketch absent)
-  unfolding before front
-  first-is l =
+  -- b's thread before b: what stands before a, then a, then what stands between
+  pub thread-whole : 8 ≤ a → in-thread (event es b .thread) (take (b - 8) es) ≡ in-thread (event es b .thread) (take (a - 8) es) ++ event es a ∷ between es a b
+  unfolding front
+  thread-whole l =
       let t = event es b .thread in
-      let fore = in-thread t (take (a - 8) es) in
       let added = added-first es a b p l in
-      let whole : in-thread t (take (b - 8) es) ≡ fore ++ event es a ∷ between es a b =
-      thread-split ∙ ap (λ m. m ++ between es a b) (thread-more es t a l (added .1) (mate-first l)) ∙ append-assoc fore (event es a ∷ []) (between es a b) in
-      let split = ap (map sketch) whole ∙ map-append sketch fore (event es a ∷ between es a b) in
-      let at : length (map sketch fore) ≡ place es a b - 8 = omega (arith, length-map fore sketch, place-added l) in
+      thread-split ∙ ap (λ m. m ++ between es a b) (thread-more es t a l (added .1) (mate-first l)) ∙ append-assoc (in-thread t (take (a - 8) es)) (event es a ∷ []) (between es a b)
+
+  first-is : 8 ≤ a → sketch (event es a) ≡ getD before (place es a b - 8) (sketch absent)
+  unfolding before
+  first-is l =
+      let fore = in-thread (event es b .thread) (take (a - 8) es) in
+      let split = ap (map sketch) (thread-whole l) ∙ map-append sketch fore (event es a ∷ between es a b) in
+      let at : length (map sketch fore) ≡ place es a b - 8 = omega (arith, length-map fore sketch, place-added es a b l) in
       sym (ap (λ m. getD m (place es a b - 8) (sketch absent)) split ∙ getD-at (map sketch fore) (sketch (event es a)) (map sketch (between es a b)) (sketch absent) (place es a b - 8) at)
 
 module _ (xs : List Event) (a b : ℕ) (ys : List Event) (c d : ℕ) (h : Alike xs a b ys c d) where
@@ -100,7 +96,7 @@ module _ (xs : List Event) (a b : ℕ) (ys : List Event) (c d : ℕ) (h : Alike 
       ⊎-elim
       (λ l.
       let too : c < 8 = grind (arith, tells) in
-      let same : a ≡ c = sym (place-initial xs a b (h .ordered) l) ∙ h .same-place ∙ place-initial ys c d (h .ordered-too) too in
+      let same : a ≡ c = sym (place-initial xs a b l) ∙ h .same-place ∙ place-initial ys c d too in
       ap sketch (event-initial xs a l ∙ ap initial-write same ∙ sym (event-initial ys c too)))
       (λ l.
       let too : 8 ≤ c = grind (arith, tells) in

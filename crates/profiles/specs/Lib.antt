@@ -1,6 +1,7 @@
 pub mod Meaning
 pub mod Threads
 pub mod Laws
+pub mod Lasting
 pub mod Strict
 pub mod Segments
 pub mod Modes

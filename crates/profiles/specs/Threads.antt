@@ -4,7 +4,8 @@
 --   sketch e          the sketch of e
 --   in-thread t es    the events of es that are of thread t, in order
 --   codes-of t es     their codes
---   sequence es b     b's thread up to b and with it, in order, without sources
+--   alone es b        b's thread up to b and with it, in order
+--   sequence es b     the same without sources
 --   place es a b      where a stands in that: the number that a has if every other thread is left
 --                     out. So an initial write keeps its number, and the first event of b's
 --                     thread stands at 8
@@ -38,8 +39,11 @@ abbrev pub codes-of : ℕ → List Event → List Code
 codes-of t es = map (λ e. e .code) (in-thread t es)
 
 -- the events numbered 8 to b are the first b - 7 of the list
+unfoldable pub alone : List Event → ℕ → List Event
+alone es b = in-thread (event es b .thread) (take (b - 7) es)
+
 unfoldable pub sequence : List Event → ℕ → List Sketch
-sequence es b = map sketch (in-thread (event es b .thread) (take (b - 7) es))
+sequence es b = map sketch (alone es b)
 
 -- the events numbered below a are the first a - 8
 unfoldable pub place : List Event → ℕ → ℕ → ℕ

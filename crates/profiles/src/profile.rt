@@ -2,6 +2,7 @@
 ghost use mathlib.Core.Path.{_≡_};
 ghost use Rattle.profiles.specs.Meaning.{Meaning};
 ghost use Rattle.profiles.specs.Laws.{Lawful};
+ghost use Rattle.profiles.specs.Lasting.{Lasting};
 use graph::event::Event;
 
 /// Answers two questions about a pair of events, given by number: is `a` kept before `b`, and is
@@ -22,4 +23,13 @@ pub trait Profile {
     /// Is `a` pushed to `b`? Yes exactly if the pair is in the set of pushed pairs.
     fn pushes(&self, events: &[Event], a: u8, b: u8) -> bool
         ensures { λ r. ⌜ r ≡ meaning (now (self .entry)) .pushed (now (events .entry)) a b ⌝ };
+}
+
+/// The theorem that the answers of every profile last: no other source, no later event and no other
+/// thread changes one. It is for callers' proofs; the number that comes back says nothing.
+pub fn answers_last<P: Profile>(profile: &P) -> u8
+    ensures { λ _. ⌜ Lasting (meaning (now (profile .entry))) ⌝ }
+{
+    let _ = profile;
+    0
 }
