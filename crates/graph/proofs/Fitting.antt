@@ -1,14 +1,14 @@
 -- Every graph that a history tells is proper, and being proper has one proof at most.
 use Prim.Native.Nat.{ℕ, _+_, _-_, _≤_, _<_}
 use mathlib.Core.Path.{_≡_, refl, sym, ap, subst, _∙_}
-use mathlib.Core.Bool.{Bool, true, false, cond, Bool-set}
-use mathlib.Core.HLevel.{⊥-prop, Π-prop, →-prop, ×₃-prop, Discrete, hedberg}
+use mathlib.Core.Bool.{true, false, Bool-set}
+use mathlib.Core.HLevel.{⊥-prop, Π-prop, →-prop, ×₃-prop, hedberg}
 use mathlib.Core.List.{List, [], _∷_, _++_}
 use mathlib.Core.Logic.{⊎-elim, ∥∥₁-elim}
 use native.Mathlib.Bridge.{le-prop}
 use native.Mathlib.Nat.{ℕ-set}
 use native.Mathlib.Omega.{arith}
-use lib.ListN.{length, getD, set, length-set}
+use lib.ListN.{length, getD, length-set}
 use Rattle.std.proofs.shelf.Lists.{getD-append-left, getD-push, length-push, getD-set-same, getD-set-other}
 use Rattle.std.proofs.shelf.Tests.{true≢false, false≢true, cases-eq, cases-lt}
 use Rattle.std.proofs.shelf.Ways.{tells}
@@ -22,8 +22,8 @@ use Rattle.graph.specs.declared.event.Event.{Event}
 use Rattle.graph.specs.declared.refusal.Refusal.{Refusal}
 use Rattle.graph.specs.declared.undo.Undo.{Undo}
 use Rattle.graph.specs.Codes.{is-read, is-write, is-fence}
-use Rattle.graph.specs.Events.{event, fresh, absent, initial-write, Present, Added}
-use Rattle.graph.specs.History.{Step, Outcome, added, sourced, graph, resource, with-source, code-of, first, unless, add-checks, source-checks, attempt}
+use Rattle.graph.specs.Events.{event, fresh, absent, Present}
+use Rattle.graph.specs.History.{Step, Outcome, graph, resource, with-source, code-of, first, unless, add-checks, source-checks, attempt}
 use Rattle.graph.specs.Memory.{Ever-proper, Tells, Told}
 use Rattle.graph.specs.Proper.{Draws, Fit, Proper}
 use Rattle.graph.proofs.Looking.{event-initial, event-added, event-same}

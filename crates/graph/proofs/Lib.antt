@@ -1,7 +1,7 @@
 pub mod Deciding
-mod Looking
+pub mod Looking
 mod Equality
-mod Fitting
+pub mod Fitting
 mod Checking
 mod Standing
 mod Undoing

@@ -1,10 +1,10 @@
 -- A step taken back in memory is as the history tells it.
 use Prim.Native.Nat.{ℕ, _+_, _-_, _≤_, _<_}
 use mathlib.Core.Path.{_≡_, refl, sym, ap, subst, _∙_}
-use mathlib.Core.List.{List, [], _∷_, _++_}
+use mathlib.Core.List.{List, [], _∷_}
 use native.Mathlib.Omega.{arith}
 use lib.ListN.{length, getD, set, take, length-set}
-use Rattle.std.proofs.shelf.Lists.{take-more, getD-set-same, getD-take, set-set, set-getD, same-from-push, length-push, length-take-le}
+use Rattle.std.proofs.shelf.Lists.{take-more, getD-set-same, set-set, set-getD, same-from-push, length-push, length-take-le}
 use Rattle.std.specs.declared.option.Option.{Option}
 use Rattle.std.specs.declared.option.Option.the-variants.{Some}
 use Rattle.std.specs.declared.result.Result.the-variants.{Ok, Err}

@@ -4,7 +4,7 @@ ghost use Prim.Native.Nat.{_+_, _<_, _≤_};
 ghost use lib.ListN.{length};
 ghost use Rattle.std.specs.Vec.{made};
 ghost use Rattle.graph.specs.Checked.{passed};
-ghost use Rattle.graph.specs.Events.{event, Added};
+ghost use Rattle.graph.specs.Events.{event};
 ghost use Rattle.graph.specs.History.{first, add-checks, source-checks, code-of};
 use crate::code::Code;
 use crate::event::Event;

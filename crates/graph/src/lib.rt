@@ -1,4 +1,5 @@
-// Execution graphs: events, the refusals of the marker, program order and reads-from.
+// Execution graphs: events, program order and reads-from; graphs in lent memory, the calls that
+// change them and their history; the refusals of the marker.
 pub mod call;
 mod checks;
 pub mod code;

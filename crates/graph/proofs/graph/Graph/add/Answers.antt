@@ -1,11 +1,10 @@
 -- An addition does as the history does.
-use Prim.Native.Nat.{_+_, _<_}
-use mathlib.Core.Path.{_≡_, refl, sym, ap, subst, _∙_}
+use mathlib.Core.Path.{refl, ap, _∙_}
 use native.Mathlib.Omega.{arith}
 use lib.ListN.{set, length-set}
 use Rattle.std.proofs.shelf.Results.{err-from-errBy}
 use Rattle.std.proofs.shelf.Tests.{false≢true}
-use Rattle.std.specs.declared.result.Result.the-variants.{Ok, Err}
+use Rattle.std.specs.declared.result.Result.the-variants.{Err}
 use Rattle.graph.specs.declared.call.Call.the-variants.{Add}
 use Rattle.graph.specs.Events.{fresh}
 use Rattle.graph.specs.Memory.{room-of}

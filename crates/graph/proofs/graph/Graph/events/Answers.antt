@@ -1,6 +1,6 @@
 -- The added events are those that some history tells, so they are proper.
 use Prim.Native.Nat.{_-_, _≤_}
-use mathlib.Core.Path.{_≡_, sym, ap, subst, _∙_}
+use mathlib.Core.Path.{_≡_, sym, ap, subst}
 use mathlib.Core.Logic.{∥∥₁-elim}
 use native.Mathlib.Omega.{arith}
 use lib.ListN.{length, take}

@@ -1,12 +1,12 @@
 -- Taking back does as the history does.
-use Prim.Native.Nat.{_+_, _-_, _≤_, _<_}
-use mathlib.Core.Path.{_≡_, refl, sym, ap, subst, _∙_}
+use Prim.Native.Nat.{_-_}
+use mathlib.Core.Path.{refl, ap, _∙_}
 use mathlib.Core.Logic.{∥∥₁-elim}
 use native.Mathlib.Bridge.{le-prop}
 use native.Mathlib.Omega.{arith}
 use lib.ListN.{length, getD, length-set}
 use Rattle.std.proofs.shelf.Tests.{false≢true}
-use Rattle.std.specs.declared.result.Result.the-variants.{Ok, Err}
+use Rattle.std.specs.declared.result.Result.the-variants.{Err}
 use Rattle.graph.specs.declared.call.Call.the-variants.{TakeBack}
 use Rattle.graph.specs.Events.{absent}
 use Rattle.graph.specs.History.{with-source}
