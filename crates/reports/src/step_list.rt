@@ -118,7 +118,7 @@ pub fn read_step(line: &str) -> Result<Option<(u8, u8)>, BadStep>
     let (Ok(from), Ok(to)) = (first.parse::<u64>(), second.parse::<u64>()) else {
         return Err(BadStep::NotTwoNumbers);
     };
-    if from >= 64 || to >= 64 {
+    if from > 63 || to > 63 {
         return Err(BadStep::TooHigh);
     }
     Ok(Some((from as u8, to as u8)))
