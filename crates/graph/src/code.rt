@@ -77,41 +77,25 @@ impl Code {
     pub fn is_read(self) -> bool
         ensures { λ r. ⌜ r ≡ is-read self ⌝ }
     {
-        match self {
-            Code::Read(_) => true,
-            Code::Write(_) => false,
-            Code::Fence(_) => false,
-        }
+        matches!(self, Code::Read(_))
     }
 
     pub fn is_write(self) -> bool
         ensures { λ r. ⌜ r ≡ is-write self ⌝ }
     {
-        match self {
-            Code::Read(_) => false,
-            Code::Write(_) => true,
-            Code::Fence(_) => false,
-        }
+        matches!(self, Code::Write(_))
     }
 
     pub fn is_fence(self) -> bool
         ensures { λ r. ⌜ r ≡ is-fence self ⌝ }
     {
-        match self {
-            Code::Read(_) => false,
-            Code::Write(_) => false,
-            Code::Fence(_) => true,
-        }
+        matches!(self, Code::Fence(_))
     }
 
     /// A read or a write.
     pub fn is_access(self) -> bool
         ensures { λ r. ⌜ r ≡ is-access self ⌝ }
     {
-        match self {
-            Code::Read(_) => true,
-            Code::Write(_) => true,
-            Code::Fence(_) => false,
-        }
+        matches!(self, Code::Read(_) | Code::Write(_))
     }
 }
