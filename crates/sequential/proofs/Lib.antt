@@ -1,0 +1,11 @@
+pub mod Below
+pub mod Blocks
+pub mod FromSingle
+pub mod Intervals
+pub mod Keys
+pub mod Places
+pub mod Ranks
+pub mod Rules
+pub mod SingleOrder
+pub mod Sorting
+pub mod ToSingle
