@@ -133,24 +133,23 @@ module _ (R : ℕ → ℕ → Type 0) (n : ℕ) (bounds : (a b : ℕ) → R a b 
                 inr (same, way-first s ws us (near .below) small (sym count) way (subst (λ z. Walk R z us z) (sym same) x) (omega arith))
           ]
 
-      pub shortest : Shortest R (s ∷ ws)
+      shortest : Shortest R (s ∷ ws)
       shortest = record {
         cycle = record { closed = way-walk s ws way; once = way-distinct s ws way };
         lowest = lowest;
         fewest = fewest;
       }
 
-      pub first-of : First R (s ∷ ws)
-      first-of = first
-
   pub wrote : (s k : ℕ) (old new : List ℕ) → Nearest n ys s → at n ys s s ≡ k → Traced R n ys s k old new → Wrote R old new k
   wrote s k old new near is t =
       let e = t .count in
+      let small = near .small in
       let count : length (t .between) + 1 ≡ at n ys s s = e ∙ sym is in
       record {
         found = s ∷ t .between;
         count = omega arith;
+        room = omega arith;
         shortest = shortest s near (t .between) (t .way) count;
-        first = first-of s near (t .between) (t .way) count;
+        first = first s near (t .between) (t .way) count;
         front = t .front;
       }
