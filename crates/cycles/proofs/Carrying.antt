@@ -7,7 +7,7 @@ use Rattle.std.specs.declared.option.Option.{Option}
 use Rattle.std.specs.declared.option.Option.the-variants.{Some, None}
 use Rattle.std.proofs.shelf.Ways.{decides-like}
 use Rattle.measures.specs.Walks.{Yes, Leads, last, more, Reachable}
-use Rattle.cycles.specs.Answers.{Wrote, CycleOrNone}
+use Rattle.cycles.specs.Answers.{CycleOrNone}
 use Rattle.cycles.specs.Cycles.{Walk, Closed, Cycle, HasCycle, NoCycle, Shortest, First}
 use Rattle.cycles.specs.Tables.{Same, TableOf}
 

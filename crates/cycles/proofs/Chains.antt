@@ -1,14 +1,16 @@
 -- Closed chains: where there is one, some vertex leads to itself, and the other way round; and their steps by places.
-use mathlib.Core.Path.{_≡_}
+use mathlib.Core.Path.{_≡_, ap, _∙_}
 use mathlib.Core.List.{List, [], _∷_}
 use Prim.Native.Nat.{ℕ, _+_, _<_, zero, suc}
 use native.Mathlib.Numerals.{add-one}
 use native.Mathlib.Omega.{arith}
-use lib.ListN.{length, getD}
+use lib.ListN.{length, getD, drop}
 use Rattle.std.specs.shelf.Lists.{All}
 use Rattle.std.proofs.shelf.Elements.{all-from-getD}
+use Rattle.std.proofs.shelf.Lists.{getD-append-left}
+use Rattle.cycles.specs.Answers.{Wrote}
 use Rattle.cycles.specs.Cycles.{Walk, Closed, Distinct, Cycle, HasCycle}
-use Rattle.cycles.proofs.Walking.{leads-walk, walk-leads, walk-below, Short, shorten}
+use Rattle.cycles.proofs.Walking.{leads-walk, walk-leads, walk-below, shorten}
 
 module _ (R : ℕ → ℕ → Type 0) where
   pub closed-some : (vs : List ℕ) → Closed R vs → 0 < length vs
@@ -58,6 +60,11 @@ module _ (R : ℕ → ℕ → Type 0) where
   closed-by-places [] some steps end = absurd (omega arith)
   closed-by-places (v ∷ vs) some steps end =
       walk-by-places v v vs (λ j h. rw (add-one j) at (steps j (omega arith))) (end (length vs) (omega arith))
+
+  -- What `shortest_cycle` wrote reads as the cycle.
+  pub wrote-reads : (old new : List ℕ) (k : ℕ) (w : Wrote R old new k) (j : ℕ) → j < k → getD new j 0 ≡ getD (w .found) j 0
+  wrote-reads old new k w j h =
+      ap (λ l. getD l j 0) (w .front) ∙ getD-append-left (w .found) (drop k old) 0 j (omega (arith, w .count))
 
 pub distinct-by-places : (vs : List ℕ) → ((i j : ℕ) → i < j → j < length vs → getD vs i 0 ≡ getD vs j 0 → ⊥) → Distinct vs
 distinct-by-places [] h = tt

@@ -1,17 +1,17 @@
 -- What the way from the nearest vertex back to itself is: a shortest cycle.
-use mathlib.Core.Path.{_≡_, refl, sym, ap, subst, _∙_}
-use mathlib.Core.Logic.{_⊎_, inl, inr}
-use mathlib.Core.List.{List, [], _∷_, _++_}
-use Prim.Native.Nat.{ℕ, _+_, _<_, _≤_, suc}
+use mathlib.Core.Path.{_≡_, sym, ap, subst, _∙_}
+use mathlib.Core.Logic.{inl, inr}
+use mathlib.Core.List.{List, [], _∷_}
+use Prim.Native.Nat.{ℕ, _+_, _<_, _≤_}
 use native.Mathlib.Omega.{arith}
-use lib.ListN.{length, drop}
+use lib.ListN.{length}
 use Rattle.std.specs.shelf.Lists.{All}
 use Rattle.std.proofs.shelf.Elements.{all-weaker}
 use Rattle.std.proofs.shelf.Tests.{cases-lt, cases-order}
 use Rattle.measures.specs.Walks.{at}
 use Rattle.cycles.specs.Answers.{Wrote}
 use Rattle.cycles.specs.Cycles.{Walk, Closed, Distinct, NoCycle, Lowest, NotAfter, First, Shortest}
-use Rattle.cycles.specs.Distances.{Distances, AllFar, Nearest, Onward, Way, Traced}
+use Rattle.cycles.specs.Distances.{Distances, AllFar, Nearest, Way, Traced}
 use Rattle.cycles.proofs.Walking.{leads-walk, walk-below, short-walk, turns}
 
 module _ (R : ℕ → ℕ → Type 0) (n : ℕ) (bounds : (a b : ℕ) → R a b → (a < n) × (b < n)) (ys : List ℕ) (small : n ≤ 64) (d : Distances R n ys) where
@@ -81,7 +81,8 @@ module _ (R : ℕ → ℕ → Type 0) (n : ℕ) (bounds : (a b : ℕ) → R a b 
     )
 
     -- No walk of as many steps comes before the way.
-    way-first : (v : ℕ) (ws us : List ℕ) → s < n → at n ys v s ≤ 64 → at n ys v s ≡ length ws + 1 → Way R n ys s v ws → Walk R v us s → length us ≡ length ws → NotAfter ws us
+    way-first : (v : ℕ) (ws us : List ℕ) → s < n → at n ys v s ≤ 64 → at n ys v s ≡ length ws + 1 →
+        Way R n ys s v ws → Walk R v us s → length us ≡ length ws → NotAfter ws us
     way-first v [] us q room is p x e = tt
     way-first v (w ∷ ws) [] q room is p x e = absurd (omega arith)
     way-first v (w ∷ ws) (u ∷ us) q room is p x e =

@@ -1,12 +1,10 @@
 -- A settled yes/no table tells by its diagonal whether there is a cycle.
 use mathlib.Core.Path.{_≡_, refl}
-use mathlib.Core.Logic.{inl, inr}
 use mathlib.Core.Bool.{true, false}
 use mathlib.Core.List.{List}
 use Prim.Native.Nat.{ℕ, _<_}
 use Rattle.std.proofs.shelf.Tests.{false≢true}
 use Rattle.measures.specs.Outcome.{Square}
-use Rattle.measures.specs.Reach.{yes}
 use Rattle.measures.specs.Walks.{at, Yes, Reachable, Leads, last, more}
 use Rattle.cycles.specs.Answers.{Tested}
 use Rattle.cycles.proofs.Choosing.{yes-where-not-0, not-0-where-yes}

@@ -15,7 +15,7 @@ use measures::steps::StepCount;
 use measures::steps::StepCountMeasure;
 use measures::steps::settle_steps;
 
-// What a table of the largest side holds.
+// How many entries a table of the largest side has.
 const CELLS: usize = LARGEST * LARGEST;
 
 // A step count above `MOST_STEPS` says that there is no way.
@@ -24,6 +24,7 @@ const MOST_STEPS: u8 = 64;
 const NO_WAY: u8 = StepCount::NONE;
 
 /// Finds a cycle with the fewest steps, and writes its vertices to the front of `cycle`, the lowest first.
+/// Of several it is the one whose vertices come first in lexicographic order.
 ///
 /// `steps` holds a yes/no table row by row, of side at most 64: an entry that is not 0 is a step from its row to its
 /// column. Answers the number of steps, which is the number of vertices written; the rest of `cycle` is as it was.
