@@ -45,6 +45,14 @@ pub fn shortest_cycle(
     if steps.len() != side * side {
         return Err(Refusal::NotSquare);
     }
+    find(steps, side, cycle)
+}
+
+// The same of a table that is square.
+fn find(steps: &[u8], side: usize, cycle: &mut [u8; LARGEST]) -> Result<Option<usize>, Refusal>
+    requires { ⌜ Square side (now steps) ⌝ }
+    ensures { λ r. ⌜ ShortestCycle side (now (steps .entry)) (now (cycle .entry)) (now (cycle .exit)) r ⌝ }
+{
     let mut table = [NO_WAY; CELLS];
     let counts = &mut table[0..steps.len()];
     mark(steps, counts);
