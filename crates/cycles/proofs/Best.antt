@@ -10,11 +10,11 @@ use Rattle.cycles.specs.Distances.{AllFar, Nearest}
 
 pub record SoFar (n : ℕ) (ys : List ℕ) (v best least : ℕ) : Type 0 where
   pub all : (a : ℕ) → a < v → least ≤ at n ys a a
-  pub below : least < 65 → best < v
-  pub is : least < 65 → at n ys best best ≡ least
+  pub below : least ≤ 64 → best < v
+  pub is : least ≤ 64 → at n ys best best ≡ least
   pub first : (a : ℕ) → a < best → least < at n ys a a
 
-pub none-yet : (n : ℕ) (ys : List ℕ) → SoFar n ys 0 0 65
+pub none-yet : (n : ℕ) (ys : List ℕ) → SoFar n ys 0 0 255
 none-yet n ys = record {
   all = λ a h. absurd (omega arith);
   below = λ h. absurd (omega arith);
@@ -44,7 +44,7 @@ no-better n ys v best least d s e h = record {
   first = s .first;
 }
 
-pub found-nearest : (n : ℕ) (ys : List ℕ) (best least : ℕ) → SoFar n ys n best least → least < 65 → Nearest n ys best
+pub found-nearest : (n : ℕ) (ys : List ℕ) (best least : ℕ) → SoFar n ys n best least → least ≤ 64 → Nearest n ys best
 found-nearest n ys best least s h =
     let e = s .is h in
     record {
@@ -54,5 +54,5 @@ found-nearest n ys best least s h =
       first = λ a l. omega (arith, s .first a l);
     }
 
-pub none-near : (n : ℕ) (ys : List ℕ) (best least : ℕ) → SoFar n ys n best least → 65 ≤ least → AllFar n ys
+pub none-near : (n : ℕ) (ys : List ℕ) (best least : ℕ) → SoFar n ys n best least → 64 < least → AllFar n ys
 none-near n ys best least s h = λ a l. omega (arith, s .all a l)

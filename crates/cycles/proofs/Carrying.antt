@@ -1,27 +1,15 @@
--- What is told of the cycles of a relation is told of any relation with the same steps, and so of the one that a table tells.
-use mathlib.Core.Path.{_≡_}
+-- What is told of the cycles of a relation is told of every relation with the same steps, and so of the one that a table tells.
 use mathlib.Core.Bool.{Bool}
 use mathlib.Core.List.{List, [], _∷_}
-use Prim.Native.Nat.{ℕ, _<_, _≤_}
-use native.Mathlib.Omega.{arith}
-use lib.ListN.{length}
+use Prim.Native.Nat.{ℕ, _<_}
 use Rattle.std.specs.Orderings.{Decides}
 use Rattle.std.specs.declared.option.Option.{Option}
 use Rattle.std.specs.declared.option.Option.the-variants.{Some, None}
 use Rattle.std.proofs.shelf.Ways.{decides-like}
-use Rattle.measures.specs.Walks.{Yes, Leads, last, more}
-use Rattle.cycles.specs.Answers.{Wrote, CycleOrNone}
-use Rattle.cycles.specs.Cycles.{Walk, Closed, Cycle, HasCycle, NoCycle, Shortest, First, Same, Table}
-use Rattle.cycles.proofs.Walking.{walk-leads}
-
-module _ (R : ℕ → ℕ → Type 0) where
-  pub closed-some : (vs : List ℕ) → Closed R vs → 0 < length vs
-  closed-some [] p = absurd p
-  closed-some (v ∷ vs) p = omega arith
-
-  pub closed-has : (vs : List ℕ) → Closed R vs → HasCycle R
-  closed-has [] p = absurd p
-  closed-has (v ∷ vs) p = (v, walk-leads R v v vs p)
+use Rattle.measures.specs.Walks.{Yes, Leads, last, more, Reachable}
+use Rattle.cycles.specs.Answers.{CycleOrNone}
+use Rattle.cycles.specs.Cycles.{Walk, Closed, Cycle, HasCycle, NoCycle, Shortest, First}
+use Rattle.cycles.specs.Tables.{Same, TableOf}
 
 -- A relation with more steps.
 module _ (R S : ℕ → ℕ → Type 0) (to : (a b : ℕ) → R a b → S a b) where
@@ -64,6 +52,7 @@ module _ (R S : ℕ → ℕ → Type 0) (same : Same R S) where
   answer-carries old new (Some k) h = record {
     found = h .found;
     count = h .count;
+    room = h .room;
     shortest = shortest-carries (h .found) (h .shortest);
     first = first-carries (h .found) (h .first);
     front = h .front;
@@ -74,10 +63,24 @@ module _ (R S : ℕ → ℕ → Type 0) (same : Same R S) where
   decides-carries has = decides-like has (has-carries R S (same .to)) (has-carries S R (same .from))
 
 -- The yes entries of a table of R are the steps of R.
-pub table-same : (n : ℕ) (xs : List ℕ) (R : ℕ → ℕ → Type 0) → Table n xs R → Same (Yes n xs) R
+pub table-same : (n : ℕ) (xs : List ℕ) (R : ℕ → ℕ → Type 0) → TableOf n xs R → Same (Yes n xs) R
 table-same n xs R t = record {
   to = λ a b s. t .tells a b (s .row) (s .column) .0 (s .is-yes);
   from = λ a b r.
       let w = t .within a b r in
       record { row = w .0; column = w .1; is-yes = t .tells a b (w .0) (w .1) .1 r };
 }
+
+-- Settling makes a table of R one of what R leads to.
+module _ (n : ℕ) (xs : List ℕ) (R : ℕ → ℕ → Type 0) (t : TableOf n xs R) where
+  leads-within : (b a : ℕ) → Leads R a b → (a < n) × (b < n)
+  leads-within b a (last p) = t .within a b p
+  leads-within b a (more {v = v} p q) = (t .within a v p .0, leads-within b v q .1)
+
+  pub settled-table : (ys : List ℕ) → Reachable n xs ys → TableOf n ys (Leads R)
+  settled-table ys reach =
+      let same = table-same n xs R t in
+      record {
+        within = λ a b l. leads-within b a l;
+        tells = λ a b p q. decides-like _ (leads-carries (Yes n xs) R (same .to) b a) (leads-carries R (Yes n xs) (same .from) b a) (reach a b p q);
+      }

@@ -1,12 +1,11 @@
 -- The search for the next vertex: those that it has passed will not do, and the first that does is the lowest.
-use mathlib.Core.Path.{_≡_, sym, ap, subst, _∙_}
+use mathlib.Core.Path.{_≡_, ap, subst}
 use mathlib.Core.Logic.{inl, inr}
 use mathlib.Core.Bool.{true, not}
 use mathlib.Core.List.{List}
-use Prim.Native.Nat.{ℕ, _+_, _*_, _<_, _≤_}
+use Prim.Native.Nat.{ℕ, _+_, _<_, _≤_}
 use native.Mathlib.Omega.{arith}
-use lib.ListN.{getD}
-use Rattle.std.proofs.shelf.Tests.{cases-lt, ne-eqb, both-ways, eq-eqb, not-from-true}
+use Rattle.std.proofs.shelf.Tests.{cases-lt, ne-eqb, both-ways, eq-eqb}
 use Rattle.measures.specs.Reach.{yes}
 use Rattle.measures.specs.Walks.{at, Yes}
 

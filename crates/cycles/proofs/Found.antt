@@ -1,17 +1,17 @@
 -- What the way from the nearest vertex back to itself is: a shortest cycle.
-use mathlib.Core.Path.{_≡_, refl, sym, ap, subst, _∙_}
-use mathlib.Core.Logic.{_⊎_, inl, inr}
-use mathlib.Core.List.{List, [], _∷_, _++_}
-use Prim.Native.Nat.{ℕ, _+_, _<_, _≤_, suc}
+use mathlib.Core.Path.{_≡_, sym, ap, subst, _∙_}
+use mathlib.Core.Logic.{inl, inr}
+use mathlib.Core.List.{List, [], _∷_}
+use Prim.Native.Nat.{ℕ, _+_, _<_, _≤_}
 use native.Mathlib.Omega.{arith}
-use lib.ListN.{length, drop}
+use lib.ListN.{length}
 use Rattle.std.specs.shelf.Lists.{All}
 use Rattle.std.proofs.shelf.Elements.{all-weaker}
 use Rattle.std.proofs.shelf.Tests.{cases-lt, cases-order}
 use Rattle.measures.specs.Walks.{at}
 use Rattle.cycles.specs.Answers.{Wrote}
 use Rattle.cycles.specs.Cycles.{Walk, Closed, Distinct, NoCycle, Lowest, NotAfter, First, Shortest}
-use Rattle.cycles.specs.Distances.{Distances, AllFar, Nearest, Onward, Way, Traced}
+use Rattle.cycles.specs.Distances.{Distances, AllFar, Nearest, Way, Traced}
 use Rattle.cycles.proofs.Walking.{leads-walk, walk-below, short-walk, turns}
 
 module _ (R : ℕ → ℕ → Type 0) (n : ℕ) (bounds : (a b : ℕ) → R a b → (a < n) × (b < n)) (ys : List ℕ) (small : n ≤ 64) (d : Distances R n ys) where
@@ -81,7 +81,8 @@ module _ (R : ℕ → ℕ → Type 0) (n : ℕ) (bounds : (a b : ℕ) → R a b 
     )
 
     -- No walk of as many steps comes before the way.
-    way-first : (v : ℕ) (ws us : List ℕ) → s < n → at n ys v s ≤ 64 → at n ys v s ≡ length ws + 1 → Way R n ys s v ws → Walk R v us s → length us ≡ length ws → NotAfter ws us
+    way-first : (v : ℕ) (ws us : List ℕ) → s < n → at n ys v s ≤ 64 → at n ys v s ≡ length ws + 1 →
+        Way R n ys s v ws → Walk R v us s → length us ≡ length ws → NotAfter ws us
     way-first v [] us q room is p x e = tt
     way-first v (w ∷ ws) [] q room is p x e = absurd (omega arith)
     way-first v (w ∷ ws) (u ∷ us) q room is p x e =
@@ -133,24 +134,23 @@ module _ (R : ℕ → ℕ → Type 0) (n : ℕ) (bounds : (a b : ℕ) → R a b 
                 inr (same, way-first s ws us (near .below) small (sym count) way (subst (λ z. Walk R z us z) (sym same) x) (omega arith))
           ]
 
-      pub shortest : Shortest R (s ∷ ws)
+      shortest : Shortest R (s ∷ ws)
       shortest = record {
         cycle = record { closed = way-walk s ws way; once = way-distinct s ws way };
         lowest = lowest;
         fewest = fewest;
       }
 
-      pub first-of : First R (s ∷ ws)
-      first-of = first
-
   pub wrote : (s k : ℕ) (old new : List ℕ) → Nearest n ys s → at n ys s s ≡ k → Traced R n ys s k old new → Wrote R old new k
   wrote s k old new near is t =
       let e = t .count in
+      let small = near .small in
       let count : length (t .between) + 1 ≡ at n ys s s = e ∙ sym is in
       record {
         found = s ∷ t .between;
         count = omega arith;
+        room = omega arith;
         shortest = shortest s near (t .between) (t .way) count;
-        first = first-of s near (t .between) (t .way) count;
+        first = first s near (t .between) (t .way) count;
         front = t .front;
       }

@@ -1,5 +1,6 @@
 pub mod Best
 pub mod Carrying
+pub mod Chains
 pub mod Choosing
 pub mod Found
 pub mod Looping

@@ -1,7 +1,7 @@
 -- The way from s back to s, as far as it is written.
 use mathlib.Core.Path.{_≡_, refl, sym, ap, subst, _∙_}
 use mathlib.Core.List.{List, [], _∷_, _++_}
-use Prim.Native.Nat.{ℕ, _+_, _<_, _≤_, suc}
+use Prim.Native.Nat.{ℕ, _+_, _<_}
 use native.Mathlib.Omega.{arith}
 use lib.ListN.{length, drop, set, getD}
 use Rattle.std.proofs.shelf.Lists.{append-assoc, append-nil, drop-set-lt, drop-more, set-at, length-push}

@@ -1,5 +1,5 @@
 -- Walks joined, turned and cut: where there is a walk there is one without a vertex twice, so one of at most n steps.
-use mathlib.Core.Path.{_≡_, refl, sym, ap, subst}
+use mathlib.Core.Path.{_≡_, sym, subst}
 use mathlib.Core.Logic.{_⊎_, inl, inr, ⊎-elim}
 use mathlib.Core.List.{List, [], _∷_, _++_}
 use Prim.Native.Nat.{ℕ, _+_, _<_, _≤_, zero, suc}
@@ -8,7 +8,7 @@ use lib.ListN.{length, length-append}
 use Rattle.std.specs.shelf.Lists.{All}
 use Rattle.std.proofs.shelf.Tests.{cases-eq}
 use Rattle.measures.specs.Walks.{Leads, last, more}
-use Rattle.cycles.specs.Cycles.{Walk, Closed, Distinct, HasCycle}
+use Rattle.cycles.specs.Cycles.{Walk, Distinct}
 
 -- What is left of xs without v.
 record Without (v : ℕ) (xs : List ℕ) : Type 1 where
@@ -89,10 +89,10 @@ module _ (R : ℕ → ℕ → Type 0) where
     subst (λ m. All (λ v. (ws : List ℕ) × Walk R v ws v × (length ws ≡ m)) vs) (omega arith) (around s v [] vs (p .0) (p .1)),
   )
 
-  record Short (a b : ℕ) : Type 0 where
-    mid : List ℕ
-    walk : Walk R a mid b
-    distinct : Distinct (a ∷ mid)
+  pub record Short (a b : ℕ) : Type 0 where
+    pub mid : List ℕ
+    pub walk : Walk R a mid b
+    pub distinct : Distinct (a ∷ mid)
 
   -- What is left of a walk from where it comes to a, if it does.
   cut : (a v b : ℕ) (vs : List ℕ) → Walk R v vs b → Distinct (v ∷ vs) → Short a b ⊎ All (λ y. a ≡ y → ⊥) (v ∷ vs)
@@ -112,7 +112,7 @@ module _ (R : ℕ → ℕ → Type 0) where
         | inr e ↦ ⊎-elim inl (λ h. inr (e, h)) (cut a w b vs (p .1) (d .1))
       ]
 
-  shorten : (a b : ℕ) (vs : List ℕ) → Walk R a vs b → Short a b
+  pub shorten : (a b : ℕ) (vs : List ℕ) → Walk R a vs b → Short a b
   shorten a b [] p = record { mid = []; walk = p; distinct = (tt, tt) }
   shorten a b (v ∷ vs) p =
       let s = shorten v b vs (p .1) in

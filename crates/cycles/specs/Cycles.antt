@@ -10,17 +10,13 @@
 --   Shortest R vs    a cycle that starts at its lowest vertex; no closed chain has fewer steps
 --   NotAfter us vs   us is vs, or has the lower vertex at the first place where they differ
 --   First R vs       no closed chain of as many steps as vs comes before it in that order
---   Same R S         two relations with the same steps
---   Table n xs R     a yes/no table of side n that tells the steps of R
 use mathlib.Core.Path.{_≡_}
 use mathlib.Core.Logic.{_⊎_}
 use mathlib.Core.List.{List, [], _∷_}
 use Prim.Native.Nat.{ℕ, _<_, _≤_}
 use lib.ListN.{length}
-use Rattle.std.specs.Orderings.{Decides}
 use Rattle.std.specs.shelf.Lists.{All}
-use Rattle.measures.specs.Reach.{yes}
-use Rattle.measures.specs.Walks.{at, Leads}
+use Rattle.measures.specs.Walks.{Leads}
 
 -- there is one step more than there are vertices between
 abbrev pub Walk : (ℕ → ℕ → Type 0) → ℕ → List ℕ → ℕ → Type 0
@@ -62,11 +58,3 @@ NotAfter (u ∷ us) (v ∷ vs) = (u < v) ⊎ ((u ≡ v) × NotAfter us vs)
 
 abbrev pub First : (ℕ → ℕ → Type 0) → List ℕ → Type 0
 First R vs = (us : List ℕ) → Closed R us → length us ≡ length vs → NotAfter vs us
-
-pub record Same (R S : ℕ → ℕ → Type 0) : Type 0 where
-  pub to : (a b : ℕ) → R a b → S a b
-  pub from : (a b : ℕ) → S a b → R a b
-
-pub record Table (n : ℕ) (xs : List ℕ) (R : ℕ → ℕ → Type 0) : Type 0 where
-  pub within : (a b : ℕ) → R a b → (a < n) × (b < n)
-  pub tells : (a b : ℕ) → a < n → b < n → Decides (yes (at n xs a b)) (R a b)

@@ -8,11 +8,23 @@ ghost use Rattle.measures.specs.Walks.{at as entry, Yes};
 ghost use Rattle.cycles.specs.Answers.{ShortestCycle};
 ghost use Rattle.cycles.specs.Distances.{Marked, Distances, AllFar, Nearest, Traced};
 use crate::table::place;
+use measures::measure::Measure;
 use measures::settling::LARGEST;
 use measures::settling::Refusal;
+use measures::steps::StepCount;
+use measures::steps::StepCountMeasure;
 use measures::steps::settle_steps;
 
+// How many entries a table of the largest side has.
+const CELLS: usize = LARGEST * LARGEST;
+
+// A step count above `MOST_STEPS` says that there is no way.
+const MOST_STEPS: u8 = 64;
+
+const NO_WAY: u8 = StepCount::NONE;
+
 /// Finds a cycle with the fewest steps, and writes its vertices to the front of `cycle`, the lowest first.
+/// Of several it is the one whose vertices come first in lexicographic order.
 ///
 /// `steps` holds a yes/no table row by row, of side at most 64: an entry that is not 0 is a step from its row to its
 /// column. Answers the number of steps, which is the number of vertices written; the rest of `cycle` is as it was.
@@ -23,7 +35,7 @@ use measures::steps::settle_steps;
 pub fn shortest_cycle(
     steps: &[u8],
     side: usize,
-    cycle: &mut [u8; 64],
+    cycle: &mut [u8; LARGEST],
 ) -> Result<Option<usize>, Refusal>
     ensures { λ r. ⌜ ShortestCycle side (now (steps .entry)) (now (cycle .entry)) (now (cycle .exit)) r ⌝ }
 {
@@ -33,7 +45,15 @@ pub fn shortest_cycle(
     if steps.len() != side * side {
         return Err(Refusal::NotSquare);
     }
-    let mut table = [255u8; 4096];
+    find(steps, side, cycle)
+}
+
+// The same of a table that is square.
+fn find(steps: &[u8], side: usize, cycle: &mut [u8; LARGEST]) -> Result<Option<usize>, Refusal>
+    requires { ⌜ Square side (now steps) ⌝ }
+    ensures { λ r. ⌜ ShortestCycle side (now (steps .entry)) (now (cycle .entry)) (now (cycle .exit)) r ⌝ }
+{
+    let mut table = [NO_WAY; CELLS];
     let counts = &mut table[0..steps.len()];
     mark(steps, counts);
     settle_steps(counts, side)?;
@@ -51,7 +71,7 @@ fn mark(steps: &[u8], counts: &mut [u8])
     ensures { λ _. ⌜ Marked (now (steps .entry)) (now (counts .exit)) ⌝ }
 {
     for i in 0..steps.len() {
-        counts[i] = if steps[i] == 0 { 255 } else { 1 };
+        counts[i] = if steps[i] == 0 { NO_WAY } else { 1 };
     }
 }
 
@@ -61,7 +81,7 @@ fn nearest(counts: &[u8], side: usize) -> Option<usize>
     ensures { λ r. ⌜ Cases r (AllFar side (now (counts .entry))) (Nearest side (now (counts .entry))) ⌝ }
 {
     let mut at = 0;
-    let mut least = 65u8;
+    let mut least = NO_WAY;
     for v in 0..side {
         let count = counts[place(side, v, v)];
         if count < least {
@@ -69,7 +89,7 @@ fn nearest(counts: &[u8], side: usize) -> Option<usize>
             at = v;
         }
     }
-    if least < 65 { Some(at) } else { None }
+    if least <= MOST_STEPS { Some(at) } else { None }
 }
 
 // The lowest vertex that a step leads to and that has `left` steps to go.
@@ -94,7 +114,14 @@ fn onward(steps: &[u8], counts: &[u8], side: usize, from: usize, to: usize, left
 }
 
 // Writes the vertices of a walk of `count` steps from `start` back to it.
-fn trace(steps: &[u8], counts: &[u8], side: usize, start: usize, count: usize, cycle: &mut [u8; 64])
+fn trace(
+    steps: &[u8],
+    counts: &[u8],
+    side: usize,
+    start: usize,
+    count: usize,
+    cycle: &mut [u8; LARGEST],
+)
     requires square { ⌜ Square side (now steps) ⌝ }
     requires shape { ⌜ Square side (now counts) ⌝ }
     requires start { ⌜ start < side ⌝ }

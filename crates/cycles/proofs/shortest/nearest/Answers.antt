@@ -18,12 +18,12 @@ loop-v-again c =
       | else-count-least w ↦ simp (w .at-is, w .least-is) (no-better n ys (c .loop-v .v) (c .loop-v .at) (c .loop-v .least) _ (c .loop-v .inv) e (w .if-count-least .left))
     ]
 
-pub returns-then-least-lt65 : need.returns-then-least-lt65
-returns-then-least-lt65 c =
+pub returns-then-least-le-MOST-STEPS : need.returns-then-least-le-MOST-STEPS
+returns-then-least-le-MOST-STEPS c =
     let all : c .loop-v .v ≡ c .args .side = omega arith in
-    found-nearest _ _ _ _ (subst (λ v. SoFar (c .args .side) (c .args .counts .now) v (c .loop-v .at) (c .loop-v .least)) all (c .loop-v .inv)) (c .if-least-lt65 .taken)
+    found-nearest _ _ _ _ (subst (λ v. SoFar (c .args .side) (c .args .counts .now) v (c .loop-v .at) (c .loop-v .least)) all (c .loop-v .inv)) (c .if-least-le-MOST-STEPS .taken)
 
-pub returns-else-least-lt65 : need.returns-else-least-lt65
-returns-else-least-lt65 c =
+pub returns-else-least-le-MOST-STEPS : need.returns-else-least-le-MOST-STEPS
+returns-else-least-le-MOST-STEPS c =
     let all : c .loop-v .v ≡ c .args .side = omega arith in
-    none-near _ _ _ _ (subst (λ v. SoFar (c .args .side) (c .args .counts .now) v (c .loop-v .at) (c .loop-v .least)) all (c .loop-v .inv)) (c .if-least-lt65 .left)
+    none-near _ _ _ _ (subst (λ v. SoFar (c .args .side) (c .args .counts .now) v (c .loop-v .at) (c .loop-v .least)) all (c .loop-v .inv)) (c .if-least-le-MOST-STEPS .left)

@@ -1,8 +1,8 @@
 use mathlib.Core.Path.{_≡_, _∙_}
-use Prim.Native.Nat.{_+_, _-_, _<_}
+use Prim.Native.Nat.{_-_, _<_}
 use native.Mathlib.Omega.{arith}
 use lib.ListN.{set, length, length-set}
-use Rattle.measures.specs.Walks.{at, Yes}
+use Rattle.measures.specs.Walks.{Yes}
 use Rattle.cycles.proofs.Found.{nearer, last-step, some-steps}
 use Rattle.cycles.proofs.Trailing.{trail-start, trail-more, trail-end}
 use Rattle.cycles.proofs.shortest.trace.Needs as need
