@@ -1,3 +1,4 @@
+pub mod Asked
 pub mod Orders
 pub mod Relations
 pub mod Rules
