@@ -1,5 +1,6 @@
 pub mod Asked
 pub mod Orders
+pub mod PushOrders
 pub mod Relations
 pub mod Rules
 pub mod Tables
