@@ -1,12 +1,10 @@
 -- What a profile need not be asked, and where the pairs of a profile lie.
 use Prim.Native.Nat.{ℕ, _+_, _*_, _<_, _≤_}
 use mathlib.Core.Path.{_≡_}
-use mathlib.Core.Bool.{Bool, true, false}
 use mathlib.Core.List.{List}
 use native.Mathlib.Omega.{arith}
 use lib.ListN.{length, set, length-set}
 use Rattle.std.specs.Orderings.{Decides}
-use Rattle.std.proofs.shelf.Tests.{false≢true}
 use Rattle.measures.specs.Reach.{yes}
 use Rattle.graph.specs.declared.event.Event.{Event}
 use Rattle.graph.specs.Order.{Po}
@@ -15,10 +13,6 @@ use Rattle.profiles.specs.Laws.{Lawful}
 use Rattle.axioms.specs.Relations.{Kept, Pushed}
 use Rattle.axioms.proofs.Drawing.{DrawnTo, drawn-none, drawn-more, place-within}
 use Rattle.axioms.proofs.Fronts.{square-fits}
-
--- No is the right answer about what does not hold.
-pub decides-none : {P : Type 0} → (P → ⊥) → Decides false P
-decides-none no-p = (λ e. absurd (false≢true e), λ p. absurd (no-p p))
 
 module _ (m : Meaning) (lawful : Lawful m) (es : List Event) (a b : ℕ) where
   pub pushed-ordered : Pushed m es a b → Po es a b

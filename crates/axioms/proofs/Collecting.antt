@@ -1,15 +1,14 @@
 -- The marked events are collected by rising number, at the front of a buffer.
 use Prim.Native.Nat.{ℕ, _+_, _≤_, _<_}
 use mathlib.Core.Path.{_≡_, refl, sym, subst, _∙_, ap}
-use mathlib.Core.Bool.{Bool, true, false}
-use mathlib.Core.Logic.{inl, inr, _≢_}
+use mathlib.Core.Bool.{Bool, false}
+use mathlib.Core.Logic.{inl, inr}
 use mathlib.Core.List.{List, _++_}
 use native.Mathlib.Omega.{arith}
 use lib.ListN.{length, getD, set, take, drop, length-set}
 use borrow.Author.Count.{below-more}
 use Rattle.std.proofs.shelf.Lists.{getD-past, getD-set-same, getD-set-other, getD-take, length-take-le, take-append-drop, drop-drop, drop-set-lt}
 use Rattle.std.proofs.shelf.Tests.{both-ways, cases-lt}
-use Rattle.axioms.specs.Orders.{Listed}
 use Rattle.axioms.specs.PushOrders.{Marked, Lists, Rising, Front}
 
 -- The marked events below a stand at the first k places.

@@ -1,13 +1,13 @@
 -- A table at the front of a longer list.
 use Prim.Native.Nat.{ℕ, _+_, _*_, _≤_, _<_}
-use mathlib.Core.Path.{_≡_, sym, subst, ap}
-use mathlib.Core.List.{List}
+use mathlib.Core.Path.{_≡_, sym, subst, ap, _∙_}
+use mathlib.Core.List.{List, _++_}
 use native.Mathlib.Nat.{mul-le-mul}
 use native.Mathlib.Omega.{arith}
 use lib.Arith.{digits-lt}
 use lib.ListN.{getD, length, take}
 use Rattle.std.specs.Orderings.{Decides}
-use Rattle.std.proofs.shelf.Lists.{getD-take, length-take-le}
+use Rattle.std.proofs.shelf.Lists.{getD-append-left, getD-take, length-take-le}
 use Rattle.measures.specs.Reach.{yes}
 use Rattle.axioms.specs.Tables.{Drawn}
 
@@ -23,3 +23,10 @@ module _ (n k : ℕ) (xs : List ℕ) (all : k ≡ n * n) where
   front-drawn R drawn a b p q =
       let within : a * n + b < k = rw all (digits-lt p q) in
       subst (λ w. Decides (yes w) (R a b)) (sym (getD-take k xs (a * n + b) 0 within)) (drawn a b p q)
+
+-- A table that tells a relation does so at the front of a longer list too.
+pub longer-drawn : (R : ℕ → ℕ → Type 0) (n : ℕ) (xs ys zs : List ℕ) → zs ≡ xs ++ ys → length xs ≡ n * n → Drawn R n xs → Drawn R n zs
+longer-drawn R n xs ys zs is long drawn a b p q =
+    let within : a * n + b < length xs = rw long (digits-lt p q) in
+    let same : getD zs (a * n + b) 0 ≡ getD xs (a * n + b) 0 = ap (λ l. getD l (a * n + b) 0) is ∙ getD-append-left xs ys 0 (a * n + b) within in
+    subst (λ w. Decides (yes w) (R a b)) (sym same) (drawn a b p q)

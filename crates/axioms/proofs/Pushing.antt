@@ -1,15 +1,13 @@
 -- Which events push, read off the table of pushed pairs.
-use Prim.Native.Nat.{ℕ, _+_, _≤_, _<_}
+use Prim.Native.Nat.{ℕ, _≤_, _<_}
 use mathlib.Core.Path.{_≡_, refl, sym, subst, _∙_}
 use mathlib.Core.Bool.{Bool, true, false}
 use mathlib.Core.List.{List}
 use native.Mathlib.Omega.{arith}
-use lib.Dec.{eqb}
-use lib.ListN.{length, getD, set, length-set}
-use borrow.Author.Count.{below-more}
+use lib.ListN.{length, getD}
 use Rattle.std.specs.Orderings.{Decides}
 use Rattle.std.proofs.shelf.Lists.{getD-past}
-use Rattle.std.proofs.shelf.Tests.{false≢true, cases-lt, ne-eqb, not-from-false}
+use Rattle.std.proofs.shelf.Tests.{false≢true, cases-lt}
 use mathlib.Core.Logic.{inl, inr}
 use Rattle.std.proofs.shelf.Ways.{decides-at, decides-like}
 use Rattle.measures.specs.Reach.{yes}
@@ -18,13 +16,11 @@ use Rattle.graph.specs.declared.event.Event.{Event}
 use Rattle.profiles.specs.Meaning.{Meaning}
 use Rattle.axioms.specs.declared.pairs.Pairs.{Pairs}
 use Rattle.axioms.specs.Asked.{Asked}
-use Rattle.axioms.specs.PushOrders.{Marked, Lists, Rising, Pushing, CountPushing, Front}
+use Rattle.axioms.specs.PushOrders.{Lists, Rising, Pushing, CountPushing, Front}
 use Rattle.axioms.specs.Relations.{Pushed, Pushes, PushOrder}
 use Rattle.axioms.specs.Tables.{Drawn}
-use Rattle.axioms.proofs.Asking.{decides-none, pushed-within}
-
-some-yes : (v : ℕ) → (v ≡ 0 → ⊥) → yes v ≡ true
-some-yes v h = not-from-false (eqb v 0) (ne-eqb v 0 h)
+use Rattle.axioms.proofs.Asking.{pushed-within}
+use Rattle.axioms.proofs.Entries.{some-yes, none-no, decides-none}
 
 module _ (m : Meaning) (es : List Event) (p : Pairs) (asked : Asked m es p) where
   -- A pushing event, and one that it is pushed to, have a row and a column.
@@ -47,8 +43,7 @@ module _ (m : Meaning) (es : List Event) (p : Pairs) (asked : Asked m es p) wher
     row-idle none = decides-none (λ (q : Pushes m es a).
         let w = within a (q .0) (q .1) in
         let column : q .0 < n = omega (arith, w .1) in
-        let no-step : false ≡ yes (at n cells a (q .0)) = rw (none (q .0) column) in
-        false≢true (no-step ∙ told (q .0) column .1 (q .1)))
+        false≢true (sym (none-no (at n cells a (q .0)) (none (q .0) column)) ∙ told (q .0) column .1 (q .1)))
 
   -- Flags for all 64 numbers are flags for every number.
   pub flags-all : (F : List Bool) → p .side ≤ 64 → length F ≡ 64 → ((a : ℕ) → a < 64 → Decides (getD F a false) (Pushes m es a)) →

@@ -1,16 +1,15 @@
 -- A list against a row of flags: the flag of each event of the list is lowered in turn.
 use Prim.Native.Nat.{ℕ, _+_, _≤_, _<_}
 use mathlib.Core.Path.{_≡_, refl, sym, subst, _∙_, ap}
-use mathlib.Core.Bool.{Bool, true, false}
-use mathlib.Core.Logic.{inl, inr, _≢_}
+use mathlib.Core.Bool.{Bool, false}
+use mathlib.Core.Logic.{inl, inr}
 use mathlib.Core.List.{List}
 use native.Mathlib.Omega.{arith}
 use lib.ListN.{length, getD, set, length-set}
 use borrow.Author.Count.{below-more}
-use Rattle.std.specs.Orderings.{Decides}
 use Rattle.std.proofs.shelf.Lists.{getD-past, getD-set-same, getD-set-other}
-use Rattle.std.proofs.shelf.Tests.{false≢true, both-ways, cases-eq, cases-lt}
-use Rattle.axioms.specs.Orders.{Listed, Once}
+use Rattle.std.proofs.shelf.Tests.{both-ways, cases-eq, cases-lt}
+use Rattle.axioms.specs.Orders.{Listed}
 use Rattle.axioms.specs.PushOrders.{Marked, Lists}
 
 -- The flags F became M on the way through the first i events of L.

@@ -3,7 +3,7 @@
 --   Asked m es p     the tables p tell the kept and the pushed pairs of a profile that means m, among the added events
 --                    es and the initial writes
 --   TooMany es why   a refusal, since es are more than 56 events
-use Prim.Native.Nat.{ℕ, _+_, _<_}
+use Prim.Native.Nat.{_+_, _<_}
 use mathlib.Core.Path.{_≡_}
 use mathlib.Core.List.{List}
 use lib.ListN.{length}

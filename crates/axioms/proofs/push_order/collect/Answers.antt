@@ -1,6 +1,5 @@
-use mathlib.Core.Path.{_≡_, sym, subst}
 use native.Mathlib.Omega.{arith}
-use Rattle.axioms.proofs.Collecting.{CollectedTo, collected-skip, collected-more, collected-all}
+use Rattle.axioms.proofs.Collecting.{collected-skip, collected-more, collected-all}
 use Rattle.axioms.proofs.push_order.collect.Needs as need
 use Rattle.axioms.proofs.push_order.collect.Needs.{then-flags-event, else-flags-event}
 

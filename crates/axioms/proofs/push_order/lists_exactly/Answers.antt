@@ -1,7 +1,7 @@
-use mathlib.Core.Path.{_≡_, refl}
+use mathlib.Core.Path.{refl}
 use native.Mathlib.Omega.{arith}
 use borrow.Author.Needs.{needs}
-use Rattle.axioms.proofs.Asking.{decides-none}
+use Rattle.axioms.proofs.Entries.{decides-none}
 use Rattle.axioms.proofs.Ticking.{ticked-none, ticked-more, lowered-twice, past-flags, still-raised, all-lowered}
 use Rattle.axioms.proofs.push_order.lists_exactly.Needs as need
 

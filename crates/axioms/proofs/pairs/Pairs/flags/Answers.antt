@@ -1,10 +1,7 @@
-use mathlib.Core.Path.{_≡_, sym}
 use mathlib.Core.Bool.{false}
-use mathlib.Core.Logic.{_≢_}
-use Prim.Native.Nat.{_<_}
 use native.Mathlib.Omega.{arith}
 use borrow.Author.Count.{below-more}
-use lib.ListN.{length, getD, set, length-set}
+use lib.ListN.{getD, set, length-set}
 use Rattle.std.specs.Orderings.{Decides}
 use Rattle.std.proofs.shelf.Lists.{getD-set-same, getD-set-other}
 use Rattle.std.proofs.shelf.Ways.{decides-at}

@@ -1,5 +1,5 @@
-use Prim.Native.Nat.{_*_, _≤_}
-use mathlib.Core.Path.{_≡_, ap₂, _∙_}
+use Prim.Native.Nat.{_*_}
+use mathlib.Core.Path.{ap₂}
 use native.Mathlib.Omega.{arith}
 use Rattle.axioms.proofs.Drawing.{place-within}
 use Rattle.axioms.proofs.Pushing.{absent-idle, row-pushes, row-idle}

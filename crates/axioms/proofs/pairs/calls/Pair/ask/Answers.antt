@@ -1,8 +1,9 @@
 -- A pair outside program order is not kept, and one that is not kept is not pushed.
-use mathlib.Core.Path.{_≡_, sym, _∙_}
+use mathlib.Core.Path.{_∙_}
 use Rattle.std.proofs.shelf.Tests.{both-ways}
 use Rattle.std.proofs.shelf.Ways.{not-from-decides}
-use Rattle.axioms.proofs.Asking.{decides-none, pushed-ordered}
+use Rattle.axioms.proofs.Asking.{pushed-ordered}
+use Rattle.axioms.proofs.Entries.{decides-none}
 use Rattle.axioms.proofs.pairs.calls.Pair.ask.Needs as need
 
 pub returns-then-not-precedes : need.returns-then-not-precedes
