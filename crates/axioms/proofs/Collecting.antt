@@ -9,7 +9,7 @@ use lib.ListN.{length, getD, set, take, drop, length-set}
 use borrow.Author.Count.{below-more}
 use Rattle.std.proofs.shelf.Lists.{getD-past, getD-set-same, getD-set-other, getD-take, length-take-le, take-append-drop, drop-drop, drop-set-lt}
 use Rattle.std.proofs.shelf.Tests.{both-ways, cases-lt}
-use Rattle.axioms.specs.PushOrders.{Marked, Lists, Rising, Front}
+use Rattle.axioms.specs.PushOrders.{Marked, Lists, Increasing, Front}
 
 -- The marked events below a stand at the first k places.
 pub record CollectedTo (F : List Bool) (a : ℕ) (old new : List ℕ) (k : ℕ) : Type 0 where
@@ -17,7 +17,7 @@ pub record CollectedTo (F : List Bool) (a : ℕ) (old new : List ℕ) (k : ℕ) 
   pub long : length new ≡ 64
   pub each : (i : ℕ) → i < k → Marked F (getD new i 0) × (getD new i 0 < a)
   pub all : (x : ℕ) → x < a → Marked F x → (i : ℕ) × (i < k) × (getD new i 0 ≡ x)
-  pub rising : (i j : ℕ) → i < j → j < k → getD new i 0 < getD new j 0
+  pub increasing : (i j : ℕ) → i < j → j < k → getD new i 0 < getD new j 0
   pub rest : drop k new ≡ drop k old
 
 pub collected-none : {F : List Bool} {old : List ℕ} → length old ≡ 64 → CollectedTo F 0 old old 0
@@ -26,7 +26,7 @@ collected-none long = record {
   long = long;
   each = λ i h. absurd (omega arith);
   all = λ x h. absurd (omega arith);
-  rising = λ i j l h. absurd (omega arith);
+  increasing = λ i j l h. absurd (omega arith);
   rest = refl;
 }
 
@@ -37,7 +37,7 @@ module _ (F : List Bool) (a : ℕ) (old new : List ℕ) (k : ℕ) (so-far : Coll
     long = so-far .long;
     each = λ i h. let e = so-far .each i h in (e .0, omega (arith, e .1));
     all = below-more (λ x. Marked F x → (i : ℕ) × (i < k) × (getD new i 0 ≡ x)) a (so-far .all) (λ m. absurd (both-ways (getD F a false) off m));
-    rising = so-far .rising;
+    increasing = so-far .increasing;
     rest = so-far .rest;
   }
 
@@ -54,8 +54,8 @@ module _ (F : List Bool) (a : ℕ) (old new : List ℕ) (k : ℕ) (so-far : Coll
         all = below-more (λ x. Marked F x → (i : ℕ) × (i < k + 1) × (getD (set new k a) i 0 ≡ x)) a
             (λ x h m. let w = so-far .all x h m in (w .0, omega (arith, w .1), other (w .0) (w .1) ∙ w .2))
             (λ m. (k, omega arith, here));
-        rising = λ i j l h. elim (cases-lt j k) [
-          | inl b ↦ omega (arith, so-far .rising i j l b, other i (omega arith), other j b)
+        increasing = λ i j l h. elim (cases-lt j k) [
+          | inl b ↦ omega (arith, so-far .increasing i j l b, other i (omega arith), other j b)
           | inr b ↦
               let last : j ≡ k = omega arith in
               let at-j : getD (set new k a) j 0 ≡ a = ap (λ y. getD (set new k a) y 0) last ∙ here in
@@ -67,13 +67,13 @@ module _ (F : List Bool) (a : ℕ) (old new : List ℕ) (k : ℕ) (so-far : Coll
       }
 
 module _ (F : List Bool) (a : ℕ) (old new : List ℕ) (k : ℕ) (done : a ≡ 64) (flags : length F ≡ 64) (c : CollectedTo F a old new k) where
-  pub collected-all : Front (λ L. Lists F L × Rising L) old new k
+  pub collected-all : Front (λ L. Lists F L × Increasing L) old new k
   collected-all =
       let count : length (take k new) ≡ k = length-take-le k new (omega (arith, c .few, c .long)) in
       let same : (i : ℕ) → i < k → getD (take k new) i 0 ≡ getD new i 0 = λ i h. getD-take k new i 0 h in
       let inside : (i : ℕ) → i < length (take k new) → i < k = λ i h. omega arith in
-      let rising : Rising (take k new) = λ i j l h.
-      omega (arith, c .rising i j l (inside j h), same i (omega (arith, inside j h)), same j (inside j h)) in
+      let increasing : Increasing (take k new) = λ i j l h.
+      omega (arith, c .increasing i j l (inside j h), same i (omega (arith, inside j h)), same j (inside j h)) in
       record {
         written = take k new;
         holds = (
@@ -88,9 +88,9 @@ module _ (F : List Bool) (a : ℕ) (old new : List ℕ) (k : ℕ) (done : a ≡ 
                 ] in
                 let w = c .all x below m in
                 record { place = w .0; within = omega (arith, w .1, count); there = same (w .0) (w .1) ∙ w .2 };
-            once = λ i j l h e. omega (arith, rising i j l h);
+            once = λ i j l h e. omega (arith, increasing i j l h);
           },
-          rising,
+          increasing,
         );
         count = count;
         front = sym (take-append-drop k new) ∙ ap (λ xs. take k new ++ xs) (c .rest);

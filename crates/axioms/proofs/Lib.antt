@@ -5,6 +5,7 @@ pub mod Entries
 pub mod Fronts
 pub mod Lawfulness
 pub mod Pushing
+pub mod SameLength
 pub mod Sources
 pub mod Targets
 pub mod Ticking

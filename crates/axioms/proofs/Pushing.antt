@@ -16,11 +16,12 @@ use Rattle.graph.specs.declared.event.Event.{Event}
 use Rattle.profiles.specs.Meaning.{Meaning}
 use Rattle.axioms.specs.declared.pairs.Pairs.{Pairs}
 use Rattle.axioms.specs.Asked.{Asked}
-use Rattle.axioms.specs.PushOrders.{Lists, Rising, Pushing, CountPushing, Front}
+use Rattle.axioms.specs.PushOrders.{Lists, Increasing, Pushing, CountPushing, Front}
 use Rattle.axioms.specs.Relations.{Pushed, Pushes, PushOrder}
 use Rattle.axioms.specs.Tables.{Drawn}
 use Rattle.axioms.proofs.Asking.{pushed-within}
 use Rattle.axioms.proofs.Entries.{some-yes, none-no, decides-none}
+use Rattle.axioms.proofs.SameLength.{same-length}
 
 module _ (m : Meaning) (es : List Event) (p : Pairs) (asked : Asked m es p) where
   -- A pushing event, and one that it is pushed to, have a row and a column.
@@ -69,13 +70,18 @@ module _ (m : Meaning) (es : List Event) (p : Pairs) (asked : Asked m es p) wher
       once = h .once;
     })
 
-    pub front-pushing : (old new : List ℕ) (k : ℕ) → Front (λ L. Lists F L × Rising L) old new k → Front (Pushing m es) old new k
+    pub front-pushing : (old new : List ℕ) (k : ℕ) → Front (λ L. Lists F L × Increasing L) old new k → Front (Pushing m es) old new k
     front-pushing old new k f = record {
       written = f .written;
-      holds = record { order = listed-pushes (f .written) (f .holds .0); rising = f .holds .1 };
+      holds = record { order = listed-pushes (f .written) (f .holds .0); increasing = f .holds .1 };
       count = f .count;
       front = f .front;
     }
 
 pub front-counts : (m : Meaning) (es : List Event) (old new : List ℕ) (k : ℕ) → Front (Pushing m es) old new k → CountPushing m es k
-front-counts m es old new k f = record { events = f .written; pushing = f .holds; count = f .count }
+front-counts m es old new k f = record {
+  events = f .written;
+  pushing = f .holds;
+  count = f .count;
+  every = λ L o. same-length m es L (f .written) o (f .holds .order) ∙ f .count;
+}

@@ -8,7 +8,7 @@ ghost use Rattle.graph.specs.declared.event.Event.{Event};
 ghost use Rattle.profiles.specs.Meaning.{Meaning};
 ghost use Rattle.axioms.specs.Asked.{Asked};
 ghost use Rattle.axioms.specs.Relations.{Pushes, PushOrder};
-ghost use Rattle.axioms.specs.PushOrders.{Lists, Rising, Pushing, CountPushing, Front};
+ghost use Rattle.axioms.specs.PushOrders.{Lists, Increasing, Pushing, CountPushing, Front};
 use crate::pairs::Pairs;
 
 impl Pairs {
@@ -70,7 +70,7 @@ impl Pairs {
 // Writes the marked events to the front of a list, by rising number, and answers how many they are.
 fn collect(flags: &[bool; 64], list: &mut [u8; 64]) -> usize
     ensures few { λ r. ⌜ r ≤ 64 ⌝ }
-    ensures told { λ r. ⌜ Front (λ L. Lists (now (flags .entry)) L × Rising L) (now (list .entry)) (now (list .exit)) r ⌝ }
+    ensures told { λ r. ⌜ Front (λ L. Lists (now (flags .entry)) L × Increasing L) (now (list .entry)) (now (list .exit)) r ⌝ }
 {
     let mut count = 0;
     for event in 0..64u8 {
