@@ -1,1 +1,11 @@
+pub mod Asking
+pub mod Collecting
 pub mod Drawing
+pub mod Entries
+pub mod Fronts
+pub mod Lawfulness
+pub mod Pushing
+pub mod SameLength
+pub mod Sources
+pub mod Targets
+pub mod Ticking

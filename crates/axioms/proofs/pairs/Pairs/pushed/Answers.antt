@@ -1,0 +1,21 @@
+use Prim.Native.Nat.{_*_, _-_, _≤_}
+use mathlib.Core.Path.{_≡_}
+use native.Mathlib.Omega.{arith}
+use borrow.Author.Needs.{needs}
+use Rattle.axioms.specs.Relations.{Pushed}
+use Rattle.axioms.proofs.Fronts.{square-fits, front-length, front-drawn}
+use Rattle.axioms.proofs.pairs.Pairs.pushed.Needs as need
+
+pub part-result-end : need.part-result-end
+part-result-end c =
+    let h : c .args .self .now .side * c .args .self .now .side ≤ 4096 = square-fits (c .args .self .now .side) (c .args .self .now .small) in
+    search needs
+
+pub returns : need.returns
+returns c =
+    let n = c .args .self .now .side in
+    let all : n * n - 0 ≡ n * n = omega arith in
+    record {
+      size = front-length n (n * n - 0) (c .args .self .now .pushed) all (c .args .self .now .small) (search needs);
+      told = λ m es asked. front-drawn n (n * n - 0) (c .args .self .now .pushed) all (Pushed m es) (asked .pushed);
+    }
