@@ -1,1 +1,5 @@
 pub mod Drawing
+pub mod VisibilityPushes
+pub mod VisibilityRows
+pub mod VisibilitySources
+pub mod VisibilityTable

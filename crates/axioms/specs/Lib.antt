@@ -2,3 +2,4 @@ pub mod Orders
 pub mod Relations
 pub mod Rules
 pub mod Tables
+pub mod Visibility

@@ -2,3 +2,4 @@
 pub mod relation;
 pub mod rule;
 pub mod source_steps;
+pub mod visibility;
