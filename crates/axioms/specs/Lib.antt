@@ -1,5 +1,6 @@
 pub mod Orders
 pub mod Relations
 pub mod Rules
+pub mod Sights
 pub mod Tables
 pub mod Visibility

@@ -3,7 +3,7 @@
 --
 --   Fits es xs         the table xs is square, with a row for each event; at most 56 events are added
 --   Told m es L xs     xs tells what leads where by steps of visibility
---   DrawnVisibility            what `draw_visibility` answers: three tables that fit, and then the lent one tells visibility for every
+--   DrawnVisibility    what `draw_visibility` answers: three tables that fit, and then the lent one tells visibility for every
 --                      profile that the other two tell; or one that does not fit, and the lent one is as it was
 --   RowJoined          n values of a list gained the yes of n values of another
 --   Gained n S xs ys   a table that gained the steps of S

@@ -1,5 +1,6 @@
 // The relations of an execution graph as tables, and the two axioms.
 pub mod relation;
 pub mod rule;
+pub mod sight;
 pub mod source_steps;
 pub mod visibility;
