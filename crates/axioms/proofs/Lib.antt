@@ -1,4 +1,5 @@
 pub mod Drawing
+pub mod Naming
 pub mod Sighting
 pub mod VisibilityPushes
 pub mod VisibilityRows

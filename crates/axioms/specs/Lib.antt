@@ -1,3 +1,4 @@
+pub mod Coherence
 pub mod Orders
 pub mod Relations
 pub mod Rules

@@ -1,4 +1,5 @@
 // The relations of an execution graph as tables, and the two axioms.
+pub mod coherence;
 pub mod relation;
 pub mod rule;
 pub mod sight;
