@@ -1,5 +1,6 @@
+pub mod Cohering
 pub mod Drawing
-pub mod Naming
+pub mod FirstRule
 pub mod Sighting
 pub mod VisibilityPushes
 pub mod VisibilityRows

@@ -1,24 +1,18 @@
--- Coherence, as a sight answers it: single steps, the table, and the cycles.
+-- The table of coherence and its cycles, as a sight answers them.
 --
---   Unused x r s           the readers that the rule x does not name are 255
---   NotLater x r s u v     of the readers that x names, r and s come no later than u and v: the first decides, then the second
---   Named m es L p q n     n names the step from p to q: a rule of coherence that holds, with its readers
---   FirstNamed m es L p q n   no rule that holds comes before the one that n names, in the order coww, cowr, corw, corr;
---                          nor readers by which it holds before those that n names
---   Lowest n P o           o is the lowest number for which P holds, or P holds for none below n
---   LowestPair P o         o names the readers by which corr holds that come first, or P holds for none
---   ShownBy m es L p q r   the read r shows the step from p to q: as the reader of cowr or corw, or as the second of corr
---   TableDrawn             what `draw_coherence` answers: the table of coherence, or one that does not fit, as it was
---   Refused                the sight's table does not fit, and the buffer is as it was
---   ShortestAnswer         what `coherence_cycle` answers: a shortest cycle, none, or a refusal
---   TestAnswer             what `has_coherence_cycle` answers: yes, no, or a refusal
+--   ReadBefore es p r         some read that precedes r in program order takes its value from p
+--   ByValue m es L p q r      r takes its value from q, and p is visible to it or read before it: the reader of cowr, or the second of corr
+--   ByOrder m es L p q r      r is a read of p's location that p is visible to, and it precedes q in program order: the reader of corw
+--   Unfit, Refused            a table does not fit
+--   TableDrawn s xs ys r      what `draw_coherence` answers: the table of coherence, or one that does not fit, as it was
+--   ShortestAnswer            what `coherence_cycle` answers: a shortest cycle, none, or a refusal
+--   TestAnswer                what `has_coherence_cycle` answers: yes, no, or a refusal
 use mathlib.Core.Path.{_≡_}
 use mathlib.Core.Logic.{_⊎_}
-use mathlib.Core.Bool.{Bool, true}
+use mathlib.Core.Bool.{Bool}
 use mathlib.Core.List.{List}
-use Prim.Native.Nat.{ℕ, _+_, _<_, _≤_}
+use Prim.Native.Nat.{ℕ, _+_}
 use lib.ListN.{length}
-use Rattle.std.specs.Options as options
 use Rattle.std.specs.Results as results
 use Rattle.std.specs.Orderings.{Decides}
 use Rattle.std.specs.declared.option.Option.{Option}
@@ -29,51 +23,20 @@ use Rattle.cycles.specs.Answers.{CycleOrNone}
 use Rattle.graph.specs.declared.event.Event.{Event}
 use Rattle.graph.specs.Order.{Po, Rf}
 use Rattle.profiles.specs.Meaning.{Meaning}
-use Rattle.axioms.specs.Relations.{Holds, Co, CoherenceCycle}
-use Rattle.axioms.specs.Rules.{number, is-coherence}
-use Rattle.axioms.specs.Sights.{Throughout}
+use Rattle.axioms.specs.Relations.{Co, CoherenceCycle}
+use Rattle.axioms.specs.Sights.{Throughout, Seen, ReadsLocation}
 use Rattle.axioms.specs.Tables.{Drawn}
 use Rattle.axioms.specs.Visibility.{Fits}
-use Rattle.axioms.specs.declared.coherence.NamedStep.{NamedStep}
-use Rattle.axioms.specs.declared.rule.Rule.{Rule}
-use Rattle.axioms.specs.declared.rule.Rule.the-variants.{ProgramOrder, ReadsFrom, Coww, Cowr, Corw, Corr}
 use Rattle.axioms.specs.declared.sight.Sight.{Sight}
 
-abbrev pub Unused : Rule → ℕ → ℕ → Type 0
-Unused ProgramOrder r s = (r ≡ 255) × (s ≡ 255)
-Unused ReadsFrom r s = (r ≡ 255) × (s ≡ 255)
-Unused Coww r s = (r ≡ 255) × (s ≡ 255)
-Unused Cowr r s = s ≡ 255
-Unused Corw r s = s ≡ 255
-Unused Corr r s = Unit {0}
+abbrev pub ReadBefore : List Event → ℕ → ℕ → Type 0
+ReadBefore es p r = (k : ℕ) × (Rf es p k × Po es k r)
 
-abbrev pub NotLater : Rule → ℕ → ℕ → ℕ → ℕ → Type 0
-NotLater ProgramOrder r s u v = Unit {0}
-NotLater ReadsFrom r s u v = Unit {0}
-NotLater Coww r s u v = Unit {0}
-NotLater Cowr r s u v = r ≤ u
-NotLater Corw r s u v = r ≤ u
-NotLater Corr r s u v = (r < u) ⊎ ((r ≡ u) × (s ≤ v))
+abbrev pub ByValue : Meaning → List Event → List ℕ → ℕ → ℕ → ℕ → Type 0
+ByValue m es L p q r = Rf es q r × (Seen m es L p r ⊎ ReadBefore es p r)
 
-pub record Named (m : Meaning) (es : List Event) (L : List ℕ) (p q : ℕ) (n : NamedStep) : Type 0 where
-  pub coherence : is-coherence (n .rule) ≡ true
-  pub holds : Holds m es L (n .rule) p q (n .reader) (n .second)
-  pub unused : Unused (n .rule) (n .reader) (n .second)
-
-pub record FirstNamed (m : Meaning) (es : List Event) (L : List ℕ) (p q : ℕ) (n : NamedStep) : Type 0 where
-  pub rule : (x : Rule) (u v : ℕ) → is-coherence x ≡ true → Holds m es L x p q u v → number (n .rule) ≤ number x
-  pub readers : (u v : ℕ) → Holds m es L (n .rule) p q u v → NotLater (n .rule) (n .reader) (n .second) u v
-
-abbrev pub Lowest : ℕ → (ℕ → Type 0) → Option ℕ → Type 0
-Lowest n P o = options.Cases o ((x : ℕ) → x < n → P x → ⊥) (λ x. P x × ((y : ℕ) → P y → x ≤ y))
-
-abbrev pub LowestPair : (ℕ → ℕ → Type 0) → Option NamedStep → Type 0
-LowestPair P o =
-    options.Cases o ((u v : ℕ) → P u v → ⊥) (λ n. (n .rule ≡ Corr) × (P (n .reader) (n .second)
-    × ((u v : ℕ) → P u v → NotLater Corr (n .reader) (n .second) u v)))
-
-abbrev pub ShownBy : Meaning → List Event → List ℕ → ℕ → ℕ → ℕ → Type 0
-ShownBy m es L p q r = Holds m es L Cowr p q r 255 ⊎ (Holds m es L Corw p q r 255 ⊎ ((k : ℕ) × Holds m es L Corr p q k r))
+abbrev pub ByOrder : Meaning → List Event → List ℕ → ℕ → ℕ → ℕ → Type 0
+ByOrder m es L p q r = Po es r q × (ReadsLocation es r p × Seen m es L p r)
 
 pub record Unfit (s : Sight) (xs ys : List ℕ) (why : Refusal) : Type 0 where
   pub refusal : why ≡ NotSquare

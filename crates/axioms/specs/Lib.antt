@@ -1,4 +1,5 @@
 pub mod Coherence
+pub mod Naming
 pub mod Orders
 pub mod Relations
 pub mod Rules

@@ -1,96 +1,69 @@
-// Coherence: its steps by name, its table, and its cycles.
-ghost use mathlib.Core.Path.{_≡_};
-ghost use Prim.Native.Nat.{ℕ, _+_, _≤_};
-ghost use lib.ListN.{length};
-ghost use Rattle.std.specs.Options.{Cases as BySome};
+// Coherence: its steps, its table and its cycles.
 ghost use Rattle.std.specs.Orderings.{Decides};
-ghost use Rattle.axioms.specs.Coherence.{Named, FirstNamed, Lowest, LowestPair};
-ghost use Rattle.axioms.specs.Relations.{Co, Holds};
+ghost use Rattle.axioms.specs.Coherence.{ReadBefore, ByValue, ByOrder};
+ghost use Rattle.axioms.specs.Relations.{Co};
 ghost use Rattle.axioms.specs.Sights.{Throughout};
-ghost use Rattle.axioms.specs.declared.rule.Rule.the-variants.{Corr};
-use crate::rule::Rule;
 use crate::sight::Sight;
 use graph::event::INITIAL;
+use graph::order::precedes;
 use graph::order::reads_from;
-use measures::settling::LARGEST;
-use crate::rule::RuleDebug;
-use crate::rule::RulePartialEq;
-
-/// What stands for a reader that a rule does not name.
-pub const UNUSED: u8 = 255;
-
-/// A step of coherence by name: its rule, and the readers that the rule names.
-#[derive(Clone, Copy, PartialEq, Eq, Debug)]
-pub struct NamedStep {
-    pub rule: Rule,
-    /// The reader; under corr the earlier of the two.
-    pub reader: u8,
-    pub second: u8,
-}
 
 impl Sight<'_, '_> {
-    /// Names the step of coherence from `p` to `q`, where there is one: the first rule that holds, in the order coww, cowr,
-    /// corw, corr, with the lowest readers.
-    pub fn name_step(&self, p: u8, q: u8) -> Option<NamedStep>
-        ensures names { λ r. ⌜ Throughout (now (self .entry)) (λ es m L. BySome r (Co m es L p q → ⊥) (Named m es L p q)) ⌝ }
-        ensures first { λ r. ⌜ Throughout (now (self .entry)) (λ es m L. BySome r (Unit {0}) (FirstNamed m es L p q)) ⌝ }
+    /// Does a step of coherence lead from `p` to `q`, by any rule?
+    pub fn coheres(&self, p: u8, q: u8) -> bool
+        ensures { λ r. ⌜ Throughout (now (self .entry)) (λ es m L. Decides r (Co m es L p q)) ⌝ }
     {
-        if self.holds(Rule::Coww, p, q, UNUSED, UNUSED) {
-            return Some(NamedStep { rule: Rule::Coww, reader: UNUSED, second: UNUSED });
+        if !self.are_rivals(p, q) {
+            return false;
         }
-        if let Some(reader) = self.first_reader(Rule::Cowr, p, q) {
-            return Some(NamedStep { rule: Rule::Cowr, reader, second: UNUSED });
+        if self.is_visible(p, q) {
+            return true;
         }
-        if let Some(reader) = self.first_reader(Rule::Corw, p, q) {
-            return Some(NamedStep { rule: Rule::Corw, reader, second: UNUSED });
-        }
-        self.first_pair(p, q)
-    }
-
-    // How many events there are; 0 where they are too many for a table.
-    fn side(&self) -> u8
-        ensures small { λ r. ⌜ r ≤ 64 ⌝ }
-        ensures is { λ r. ⌜ (length (now (now (self .entry) .events)) + 8 ≤ 64 → r ≡ length (now (now (self .entry) .events)) + 8) ⌝ }
-    {
-        let side = self.events.len() + INITIAL as usize;
-        if side > LARGEST { 0 } else { side as u8 }
-    }
-
-    // The lowest reader by which the step holds.
-    fn first_reader(&self, rule: Rule, p: u8, q: u8) -> Option<u8>
-        ensures { λ r. ⌜ Throughout (now (self .entry)) (λ es m L. Lowest (length es + 8) (λ x. Holds m es L rule p q x 255) r) ⌝ }
-    {
-        for reader in 0..self.side() {
-            if self.holds(rule, p, q, reader, UNUSED) {
-                return Some(reader);
+        for reader in INITIAL..self.side() {
+            if self.shows_by_value(p, q, reader) {
+                return true;
+            }
+            if self.shows_by_order(p, q, reader) {
+                return true;
             }
         }
-        None
+        false
     }
 
-    // The lowest readers by which the step holds by corr, the first deciding.
-    fn first_pair(&self, p: u8, q: u8) -> Option<NamedStep>
-        ensures { λ r. ⌜ Throughout (now (self .entry)) (λ es m L. LowestPair (Holds m es L Corr p q) r) ⌝ }
+    // Does a read show the step by what it reads? It is then the reader of cowr, or the second of corr.
+    fn shows_by_value(&self, p: u8, q: u8, reader: u8) -> bool
+        ensures { λ r. ⌜ Throughout (now (self .entry)) (λ es m L. Decides r (ByValue m es L p q reader)) ⌝ }
     {
-        for reader in 0..self.side() {
+        if !reads_from(self.events, q, reader) {
+            return false;
+        }
+        self.is_visible(p, reader) || self.is_read_before(p, reader)
+    }
+
+    // Does a read show the step by standing before `q`? It is then the reader of corw.
+    fn shows_by_order(&self, p: u8, q: u8, reader: u8) -> bool
+        ensures { λ r. ⌜ Throughout (now (self .entry)) (λ es m L. Decides r (ByOrder m es L p q reader)) ⌝ }
+    {
+        if !precedes(self.events, reader, q) {
+            return false;
+        }
+        if !self.reads_location(reader, p) {
+            return false;
+        }
+        self.is_visible(p, reader)
+    }
+
+    // Does some read before `second` take its value from `p`?
+    fn is_read_before(&self, p: u8, second: u8) -> bool
+        ensures { λ r. ⌜ Decides r (ReadBefore (now (now (self .entry) .events)) p second) ⌝ }
+    {
+        for reader in INITIAL..second {
             if reads_from(self.events, p, reader) {
-                if let Some(second) = self.second_reader(p, q, reader) {
-                    return Some(NamedStep { rule: Rule::Corr, reader, second });
+                if precedes(self.events, reader, second) {
+                    return true;
                 }
             }
         }
-        None
-    }
-
-    // The lowest second reader by which the step holds by corr, with the first one given.
-    fn second_reader(&self, p: u8, q: u8, reader: u8) -> Option<u8>
-        ensures { λ r. ⌜ Throughout (now (self .entry)) (λ es m L. Lowest (length es + 8) (Holds m es L Corr p q reader) r) ⌝ }
-    {
-        for second in 0..self.side() {
-            if self.holds(Rule::Corr, p, q, reader, second) {
-                return Some(second);
-            }
-        }
-        None
+        false
     }
 }

@@ -1,5 +1,6 @@
 // The relations of an execution graph as tables, and the two axioms.
 pub mod coherence;
+pub mod naming;
 pub mod relation;
 pub mod rule;
 pub mod sight;

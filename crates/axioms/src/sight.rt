@@ -1,6 +1,6 @@
 // What is visible in a graph, and whether a step holds by a rule.
 ghost use mathlib.Core.Path.{_≡_};
-ghost use Prim.Native.Nat.{_+_};
+ghost use Prim.Native.Nat.{_+_, _≤_};
 ghost use lib.ListN.{length};
 ghost use mathlib.Core.Bool.{false};
 ghost use Rattle.std.specs.Options.{Cases as BySome};
@@ -76,6 +76,15 @@ impl Sight<'_, '_> {
             return false;
         };
         first == second && p != q
+    }
+
+    // How many events there are; 0 where they are too many for a table.
+    pub(crate) fn side(&self) -> u8
+        ensures small { λ r. ⌜ r ≤ 64 ⌝ }
+        ensures is { λ r. ⌜ (length (now (now (self .entry) .events)) + 8 ≤ 64 → r ≡ length (now (now (self .entry) .events)) + 8) ⌝ }
+    {
+        let side = self.events.len() + INITIAL as usize;
+        if side > LARGEST { 0 } else { side as u8 }
     }
 
     // The location that a write writes; none where the event is no write.

@@ -1,6 +1,6 @@
 use native.Mathlib.Omega.{arith}
 use Rattle.std.proofs.shelf.Tests.{both-ways}
-use Rattle.axioms.proofs.Naming.{pair-more, pair-found, pair-none, second-none}
+use Rattle.axioms.proofs.FirstRule.{pair-more, pair-found, pair-none, second-none}
 use Rattle.axioms.proofs.sight.Sight.first_pair.Needs as need
 use Rattle.axioms.proofs.sight.Sight.first_pair.Needs.{then-reads-from·in-rest, else-reads-from}
 

@@ -1,6 +1,6 @@
 use native.Mathlib.Omega.{arith}
 use Rattle.axioms.specs.Relations.{Holds}
-use Rattle.axioms.proofs.Naming.{lowest-found, none-more}
+use Rattle.axioms.proofs.FirstRule.{lowest-found, none-more}
 use Rattle.axioms.proofs.sight.Sight.first_reader.Needs as need
 
 pub loop-reader-holds : need.loop-reader-holds

@@ -2,7 +2,7 @@ use Rattle.std.specs.declared.option.Option.the-variants.{Some}
 use Rattle.std.proofs.shelf.Ways.{not-from-decides}
 use Rattle.axioms.specs.Sights.{Throughout}
 use Rattle.axioms.specs.declared.rule.Rule.the-variants.{Coww, Cowr, Corw}
-use Rattle.axioms.proofs.Naming.{Answer, by-coww, by-cowr, by-corw, by-corr}
+use Rattle.axioms.proofs.FirstRule.{Answer, by-coww, by-cowr, by-corw, by-corr}
 use Rattle.axioms.proofs.sight.Sight.name_step.Needs as need
 
 pub returns-then-holds : need.returns-then-holds

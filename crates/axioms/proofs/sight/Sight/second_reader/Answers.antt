@@ -1,7 +1,7 @@
 use native.Mathlib.Omega.{arith}
 use Rattle.axioms.specs.Relations.{Holds}
 use Rattle.axioms.specs.declared.rule.Rule.the-variants.{Corr}
-use Rattle.axioms.proofs.Naming.{lowest-found, none-more}
+use Rattle.axioms.proofs.FirstRule.{lowest-found, none-more}
 use Rattle.axioms.proofs.sight.Sight.second_reader.Needs as need
 
 pub loop-second-holds : need.loop-second-holds

@@ -16,10 +16,10 @@ use Rattle.std.proofs.shelf.Tests.{cases-lt, cases-order, both-ways, false≢tr
 use Rattle.graph.specs.declared.event.Event.{Event}
 use Rattle.graph.specs.Order.{Po, Rf}
 use Rattle.profiles.specs.Meaning.{Meaning}
-use Rattle.axioms.specs.Coherence.{Unused, NotLater, Named, FirstNamed, Lowest, LowestPair}
+use Rattle.axioms.specs.Naming.{Unused, NotLater, Named, FirstNamed, Lowest, LowestPair}
 use Rattle.axioms.specs.Relations.{Holds, Co}
 use Rattle.axioms.specs.Rules.{number, is-coherence}
-use Rattle.axioms.specs.declared.coherence.NamedStep.{NamedStep}
+use Rattle.axioms.specs.declared.naming.NamedStep.{NamedStep}
 use Rattle.axioms.specs.declared.rule.Rule.{Rule}
 use Rattle.axioms.specs.declared.rule.Rule.the-variants.{ProgramOrder, ReadsFrom, Coww, Cowr, Corw, Corr}
 
