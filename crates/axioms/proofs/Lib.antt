@@ -1,3 +1,4 @@
+pub mod CoherenceCycles
 pub mod Cohering
 pub mod Drawing
 pub mod FirstRule

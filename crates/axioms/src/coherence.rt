@@ -1,12 +1,16 @@
 // Coherence: its steps, its table and its cycles.
 ghost use Rattle.std.specs.Orderings.{Decides};
-ghost use Rattle.axioms.specs.Coherence.{ReadBefore, ByValue, ByOrder};
+ghost use Rattle.axioms.specs.Coherence.{ReadBefore, ByValue, ByOrder, TableDrawn, ShortestAnswer, TestAnswer};
 ghost use Rattle.axioms.specs.Relations.{Co};
 ghost use Rattle.axioms.specs.Sights.{Throughout};
 use crate::sight::Sight;
+use cycles::exists::has_cycle;
+use cycles::shortest::shortest_cycle;
 use graph::event::INITIAL;
 use graph::order::precedes;
 use graph::order::reads_from;
+use measures::settling::LARGEST;
+use measures::settling::Refusal;
 
 impl Sight<'_, '_> {
     /// Does a step of coherence lead from `p` to `q`, by any rule?
@@ -65,5 +69,68 @@ impl Sight<'_, '_> {
             }
         }
         false
+    }
+
+    /// Draws coherence into a yes/no table, row by row: 1 where a step leads from the row to the column, else 0.
+    ///
+    /// Where more than 56 events are added, or `cells` has not a row and a column for each event, nothing is written.
+    pub fn draw_coherence(&self, cells: &mut [u8]) -> Result<(), Refusal>
+        ensures { λ r. ⌜ TableDrawn (now (self .entry)) (now (cells .entry)) (now (cells .exit)) r ⌝ }
+    {
+        let side = self.events.len() + INITIAL as usize;
+        if side > LARGEST {
+            return Err(Refusal::NotSquare);
+        }
+        if cells.len() != side * side {
+            return Err(Refusal::NotSquare);
+        }
+        let mut at = 0;
+        for p in 0..side as u8 {
+            for q in 0..side as u8 {
+                cells[at] = if self.coheres(p, q) { 1 } else { 0 };
+                at += 1;
+            }
+        }
+        Ok(())
+    }
+
+    /// Finds a coherence cycle with the fewest steps, and writes its events to the front of `cycle`, the lowest first.
+    ///
+    /// Answers the number of steps, which is the number of events written; the rest of `cycle` is as it was. Without a cycle the
+    /// answer is `None`. Where the table of visibility does not fit the events the call is refused. In both, `cycle` is as it was.
+    pub fn coherence_cycle(&self, cycle: &mut [u8; 64]) -> Result<Option<u8>, Refusal>
+        ensures { λ r. ⌜ ShortestAnswer (now (self .entry)) (now (cycle .entry)) (now (cycle .exit)) r ⌝ }
+    {
+        let side = self.events.len() + INITIAL as usize;
+        if side > LARGEST {
+            return Err(Refusal::NotSquare);
+        }
+        if self.leads.len() != side * side {
+            return Err(Refusal::NotSquare);
+        }
+        let mut table = [0u8; 4096];
+        let cells = &mut table[0..side * side];
+        self.draw_coherence(cells)?;
+        match shortest_cycle(cells, side, cycle)? {
+            Some(count) => Ok(Some(count as u8)),
+            None => Ok(None),
+        }
+    }
+
+    /// Is there a coherence cycle? Where the table of visibility does not fit the events the call is refused.
+    pub fn has_coherence_cycle(&self) -> Result<bool, Refusal>
+        ensures { λ r. ⌜ TestAnswer (now (self .entry)) r ⌝ }
+    {
+        let side = self.events.len() + INITIAL as usize;
+        if side > LARGEST {
+            return Err(Refusal::NotSquare);
+        }
+        if self.leads.len() != side * side {
+            return Err(Refusal::NotSquare);
+        }
+        let mut table = [0u8; 4096];
+        let cells = &mut table[0..side * side];
+        self.draw_coherence(cells)?;
+        has_cycle(cells, side)
     }
 }
