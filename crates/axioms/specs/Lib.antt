@@ -1,7 +1,11 @@
 pub mod Asked
+pub mod Coherence
+pub mod Naming
 pub mod Orders
 pub mod PushOrders
 pub mod Reached
 pub mod Relations
 pub mod Rules
+pub mod Sights
 pub mod Tables
+pub mod Visibility
