@@ -1,0 +1,4 @@
+pub mod Sheets
+pub mod Steps
+pub mod Verdicts
+pub mod Written

@@ -1,0 +1,4 @@
+// The sheets of the marker: what they say, their bytes, and the checks of their layout.
+pub mod step;
+pub mod verdict;
+pub mod writing;
