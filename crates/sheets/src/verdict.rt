@@ -2,8 +2,10 @@
 ghost use mathlib.Core.Path.{_≡_};
 ghost use Prim.Native.Nat.{ℕ};
 ghost use Rattle.std.specs.Options.{Cases as BySome};
-ghost use Rattle.sheets.specs.Verdicts.{number as «number-of»};
+ghost use Rattle.std.specs.Orderings.{Decides};
+ghost use Rattle.sheets.specs.Verdicts.{number as «number-of», Belongs};
 ghost use Rattle.sheets.specs.declared.verdict.Verdict.{Verdict};
+use axioms::rule::Rule;
 
 /// Both axioms hold, the first is broken, or the second is.
 #[derive(Clone, Copy, PartialEq, Eq, Debug)]
@@ -34,6 +36,18 @@ impl Verdict {
             1 => Some(Verdict::SourceCycle),
             2 => Some(Verdict::CoherenceCycle),
             _ => None,
+        }
+    }
+
+    /// Can a step that holds by this rule stand in a sheet of this verdict? The rules of coherence belong to coherence
+    /// cycles, the others to source cycles.
+    pub fn admits(self, rule: Rule) -> bool
+        ensures { λ r. ⌜ Decides r (Belongs self rule) ⌝ }
+    {
+        match self {
+            Verdict::Clear => false,
+            Verdict::SourceCycle => !rule.is_coherence(),
+            Verdict::CoherenceCycle => rule.is_coherence(),
         }
     }
 }
