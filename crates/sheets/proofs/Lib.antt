@@ -1,0 +1,10 @@
+pub mod Blame
+pub mod Bytes
+pub mod Chains
+pub mod Decoding
+pub mod Fronts
+pub mod Naming
+pub mod Places
+pub mod Sound
+pub mod Steps
+pub mod Telling

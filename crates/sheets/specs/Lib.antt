@@ -1,0 +1,9 @@
+pub mod Checks
+pub mod Entries
+pub mod Faults
+pub mod Layouts
+pub mod Sheets
+pub mod Steps
+pub mod Verdicts
+pub mod WellLaid
+pub mod Written
