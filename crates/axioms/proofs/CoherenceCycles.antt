@@ -13,7 +13,8 @@ use Rattle.std.specs.declared.result.Result.the-variants.{Ok, Err}
 use Rattle.measures.specs.declared.settling.Refusal.{Refusal}
 use Rattle.measures.specs.Walks.{Yes}
 use Rattle.cycles.specs.Answers.{Wrote, CycleOrNone, CycleTest}
-use Rattle.cycles.specs.Cycles.{Closed, HasCycle, Table}
+use Rattle.cycles.specs.Cycles.{Closed, HasCycle}
+use Rattle.cycles.specs.Tables.{TableOf}
 use Rattle.cycles.proofs.Carrying.{table-same, answer-carries, decides-carries}
 use Rattle.cycles.proofs.Walking.{short-walk}
 use Rattle.graph.specs.declared.event.Event.{Event}
@@ -42,7 +43,7 @@ module _ (m : Meaning) (es : List Event) (L : List ℕ) where
   co-rivals p q co = rule-rivals (co .rule) p q (co .reader) (co .second) (co .coherence) (co .holds)
 
   module _ (xs : List ℕ) (drawn : Drawn (Co m es L) (length es + 8) xs) where
-    co-table : Table (length es + 8) xs (Co m es L)
+    co-table : TableOf (length es + 8) xs (Co m es L)
     co-table = record {
       within = λ p q co.
           let rivals = co-rivals p q co in

@@ -49,6 +49,7 @@ module _ (R : ℕ → ℕ → Type 0) (n : ℕ) (target : (a b : ℕ) → R a b 
     cycle-tells old new (Some k) h = record {
       found = h .found;
       count = h .count;
+      room = h .room;
       shortest = record {
         cycle = cycle-carries (Yes n xs) R step-of (h .found) (h .shortest .cycle);
         lowest = h .shortest .lowest;
