@@ -11,7 +11,7 @@ pub struct Pairs {
     side: usize,
     /// Row by row; the first `side` × `side` values count.
     kept: [u8; 4096],
-    /// Likewise.
+    /// Row by row, as `kept`.
     pushed: [u8; 4096],
     ghost small: { side ≤ 64 },
 }

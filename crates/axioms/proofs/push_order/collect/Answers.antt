@@ -1,3 +1,4 @@
+-- A marked event is collected, another is passed over.
 use native.Mathlib.Omega.{arith}
 use Rattle.axioms.proofs.Collecting.{collected-skip, collected-more, collected-all}
 use Rattle.axioms.proofs.push_order.collect.Needs as need

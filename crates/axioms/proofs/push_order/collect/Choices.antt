@@ -1,3 +1,4 @@
+-- The marked events below an event are collected.
 use Rattle.axioms.proofs.Collecting.{CollectedTo}
 use Rattle.axioms.proofs.push_order.collect.Given as given
 

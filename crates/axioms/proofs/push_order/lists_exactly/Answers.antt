@@ -1,3 +1,4 @@
+-- A flag that is down when its event comes, or up at the end, shows that the list is another.
 use mathlib.Core.Path.{refl}
 use native.Mathlib.Omega.{arith}
 use borrow.Author.Needs.{needs}

@@ -1,3 +1,4 @@
+-- The flags of the events passed so far are down; then no flag passed so far is up.
 use Prim.Native.Nat.{ℕ, _<_}
 use mathlib.Core.Path.{_≡_}
 use mathlib.Core.Bool.{false}

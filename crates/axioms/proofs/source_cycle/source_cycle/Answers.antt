@@ -1,3 +1,4 @@
+-- A shortest cycle of the table of the steps is a shortest source cycle.
 use Prim.Native.Nat.{_+_, _*_, _≤_}
 use mathlib.Core.Path.{_∙_}
 use borrow.Author.Needs.{needs}

@@ -1,3 +1,4 @@
+-- The tables tell the profile's pairs once every place is asked.
 use mathlib.Core.Path.{_≡_, refl, subst}
 use Prim.Native.Nat.{_+_, _*_}
 use native.Mathlib.Omega.{arith}

@@ -1,3 +1,4 @@
+-- What asking keeps: every pair before a place is asked, row by row.
 use Prim.Native.Nat.{_+_, _*_}
 use mathlib.Core.Path.{_≡_}
 use Rattle.axioms.proofs.Asking.{AskedTo}

@@ -1,3 +1,4 @@
+-- The count is that of the list, and of every push order.
 use Rattle.axioms.proofs.Pushing.{front-counts}
 use Rattle.axioms.proofs.pairs.Pairs.count_pushing.Needs as need
 

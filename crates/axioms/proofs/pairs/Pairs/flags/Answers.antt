@@ -1,3 +1,4 @@
+-- One flag more is right, and past the last flag nothing pushes.
 use mathlib.Core.Bool.{false}
 use native.Mathlib.Omega.{arith}
 use borrow.Author.Count.{below-more}

@@ -1,3 +1,4 @@
+-- The flags below an event are right.
 use Prim.Native.Nat.{ℕ, _<_}
 use mathlib.Core.Path.{_≡_}
 use mathlib.Core.Bool.{false}

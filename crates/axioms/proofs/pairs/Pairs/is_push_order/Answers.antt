@@ -1,3 +1,4 @@
+-- A list of the marked events is a push order.
 use Rattle.axioms.proofs.Pushing.{decides-push-order}
 use Rattle.axioms.proofs.pairs.Pairs.is_push_order.Needs as need
 

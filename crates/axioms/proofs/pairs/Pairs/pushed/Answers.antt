@@ -1,3 +1,4 @@
+-- The front of the array is the table of the pushed pairs.
 use Prim.Native.Nat.{_*_, _-_, _≤_}
 use mathlib.Core.Path.{_≡_}
 use native.Mathlib.Omega.{arith}

@@ -1,3 +1,4 @@
+-- An event pushes exactly if its row has a yes; an absent one has no row and does not push.
 use Prim.Native.Nat.{_*_}
 use mathlib.Core.Path.{ap₂}
 use native.Mathlib.Omega.{arith}

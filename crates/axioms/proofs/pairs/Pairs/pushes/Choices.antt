@@ -1,3 +1,4 @@
+-- The entries passed so far are no.
 use Prim.Native.Nat.{ℕ, _<_}
 use mathlib.Core.Path.{_≡_}
 use Rattle.measures.specs.Walks.{at}

@@ -1,3 +1,4 @@
+-- The marked events are the pushing ones.
 use Rattle.axioms.proofs.Pushing.{front-pushing}
 use Rattle.axioms.proofs.pairs.Pairs.pushing.Needs as need
 

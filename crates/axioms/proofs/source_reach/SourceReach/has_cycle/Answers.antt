@@ -1,3 +1,4 @@
+-- A yes on the diagonal is a cycle, and every cycle has one.
 use native.Mathlib.Omega.{arith}
 use Rattle.axioms.proofs.Drawing.{place-within}
 use Rattle.axioms.proofs.Fronts.{square-fits}

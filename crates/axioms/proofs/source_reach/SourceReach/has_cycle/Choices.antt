@@ -1,3 +1,4 @@
+-- No event passed so far has a way back to itself.
 use Prim.Native.Nat.{ℕ, _<_}
 use mathlib.Core.Path.{_≡_}
 use Rattle.measures.specs.Walks.{at}

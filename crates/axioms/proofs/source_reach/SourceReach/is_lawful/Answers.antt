@@ -1,3 +1,4 @@
+-- An event that reaches an earlier one makes the list unlawful, and nothing else does.
 use Prim.Native.Nat.{ℕ, _<_}
 use native.Mathlib.Omega.{arith}
 use borrow.Author.Count.{below-more}

@@ -1,3 +1,4 @@
+-- No event passed so far reaches an earlier one.
 use Prim.Native.Nat.{ℕ, _<_}
 use mathlib.Core.List.{List}
 use lib.ListN.{getD}

@@ -1,3 +1,4 @@
+-- An entry tells whether there is a way, and no way starts or ends at an absent event.
 use native.Mathlib.Omega.{arith}
 use mathlib.Core.Logic.{⊎-elim}
 use Rattle.axioms.proofs.Drawing.{place-within}

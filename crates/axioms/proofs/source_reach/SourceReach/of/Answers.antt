@@ -1,3 +1,4 @@
+-- The settled table of the steps tells the ways.
 use Prim.Native.Nat.{_+_, _*_, _≤_}
 use mathlib.Core.Path.{refl, _∙_}
 use borrow.Author.Needs.{needs}
