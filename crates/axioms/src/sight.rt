@@ -65,8 +65,8 @@ impl Sight<'_, '_> {
         }
     }
 
-    /// Are `p` and `q` distinct writes of one location?
-    pub fn are_rivals(&self, p: u8, q: u8) -> bool
+    // Are `p` and `q` distinct writes of one location?
+    pub(crate) fn are_rivals(&self, p: u8, q: u8) -> bool
         ensures { λ r. ⌜ Decides r (Rivals (now (now (self .entry) .events)) p q) ⌝ }
     {
         let Some(first) = self.written(p) else {
@@ -101,8 +101,8 @@ impl Sight<'_, '_> {
         }
     }
 
-    /// Is `reader` a read of the location of `p`?
-    pub fn reads_location(&self, reader: u8, p: u8) -> bool
+    // Is `reader` a read of the location of `p`?
+    pub(crate) fn reads_location(&self, reader: u8, p: u8) -> bool
         ensures { λ r. ⌜ Decides r (ReadsLocation (now (now (self .entry) .events)) reader p) ⌝ }
     {
         match (event_at(self.events, reader), event_at(self.events, p)) {
