@@ -1,6 +1,9 @@
 // Byte strings cut into counted sections: a count of one byte, then as many entries of one size.
 ghost use mathlib.Core.Path.{_≡_};
+ghost use Rattle.std.specs.declared.result.Result.{Result};
 ghost use Rattle.sections.specs.Sections.{entry-number, Sectioned};
+ghost use Rattle.sections.specs.declared.Section.{Section};
+ghost use Rattle.sections.specs.declared.Cut.{Cut};
 
 /// A section that is whole.
 #[derive(Clone, Copy, PartialEq, Eq, Debug)]
@@ -38,7 +41,8 @@ impl Section {
     /// In the bytes 9, 2, 5, 6, 7 the section at 1 with entries of size 1 has two of them and ends at 4; with entries
     /// of size 2 the bytes end inside the second. Entries of size 0 are always whole.
     pub fn cut(bytes: &[u8], start: usize, size: usize) -> Result<Section, Cut>
-        ensures { λ r. ⌜ Sectioned (now (bytes .entry)) start size r ⌝ }
+        ensures value { λ r. ⌜ Sectioned (now (bytes .entry)) start size r ⌝ }
+        ensures only { λ r. ⌜ ((other : Result Section Cut) → Sectioned (now (bytes .entry)) start size other → other ≡ r) ⌝ }
     {
         if start >= bytes.len() {
             return Err(Cut::NoCount);

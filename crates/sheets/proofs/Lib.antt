@@ -5,6 +5,7 @@ pub mod Decoding
 pub mod Fronts
 pub mod Naming
 pub mod Places
+pub mod Single
 pub mod Sound
 pub mod Steps
 pub mod Telling

@@ -10,7 +10,6 @@ use native.Mathlib.Omega.{arith}
 use lib.ListN.{length, take, drop, getD}
 use Rattle.std.specs.Finite.{nth}
 use Rattle.std.specs.Joined.{joined}
-use Rattle.std.specs.Options.{Cases}
 use Rattle.std.specs.declared.option.Option.{Option}
 use Rattle.std.specs.declared.option.Option.the-variants.{Some, None}
 use Rattle.std.proofs.shelf.Lists.{getD-drop, drop-drop, length-take, length-drop}
@@ -20,7 +19,7 @@ use Rattle.axioms.specs.Rules.{number}
 use Rattle.axioms.specs.declared.rule.Rule.{Rule}
 use Rattle.axioms.specs.declared.rule.Rule.the-variants.{ProgramOrder}
 use Rattle.sheets.specs.declared.step.Step.{Step}
-use Rattle.sheets.specs.Entries.{byte, from, to, rule, reader, second, Stands}
+use Rattle.sheets.specs.Entries.{byte, from, to, rule, reader, second, Stands, StepAt}
 use Rattle.sheets.specs.Steps.{step-bytes}
 use Rattle.sheets.proofs.Bytes.{length-steps}
 use Rattle.sheets.proofs.Naming.{same-rule}
@@ -91,7 +90,7 @@ stands-joined (t ∷ ts) (suc k) d h =
 pub count-told : (ss : List ℕ) (ts : List Step) → ss ≡ joined step-bytes ts → length ss / 5 ≡ length ts
 count-told ss ts e = ap (λ n. n / 5) (ap length e ∙ length-steps ts) ∙ mul-div-cancel (length ts) (omega arith)
 
-pub step-told : (ss : List ℕ) (k : ℕ) (r : Option Step) (ts : List Step) → Cases r ((s : Step) → Stands ss k s → ⊥) (λ s. Stands ss k s) →
+pub step-told : (ss : List ℕ) (k : ℕ) (r : Option Step) (ts : List Step) → StepAt ss k r →
     ss ≡ joined step-bytes ts → r ≡ nth ts k
 step-told ss k None ts none e = elim (cases-lt k (length ts)) [
   | inl l ↦

@@ -10,6 +10,8 @@ use Prim.Native.Nat.{ℕ, _+_, _*_, _<_, _≤_}
 use native.Mathlib.Omega.{arith}
 use lib.ListN.{length, getD}
 use Rattle.std.specs.Holes.{between}
+use Rattle.std.specs.Results.{errPart}
+use Rattle.std.specs.declared.option.Option.the-variants.{None}
 use Rattle.std.specs.declared.result.Result.{Result}
 use Rattle.std.specs.declared.result.Result.the-variants.{Ok, Err}
 use Rattle.graph.specs.declared.refusal.Refused.{Refused}
@@ -196,3 +198,8 @@ module _ (present : ℕ) (bs : List ℕ) (v : Verdict) (one two : Section) (soun
       ⊎-elim (λ r. no-wrong-count present bs v one two (sound .cuts) (sound .count) (r .0) (r .1 .0)) (λ d.
       ⊎-elim (λ r. no-faulty-step present bs v one two (sound .cuts) (sound .steps) (r .0) (r .1 .0)) (λ f.
       ⊎-elim (λ r. not-behind (r .0) (r .1 .0)) (λ g. let z : _≡_ {A = ℕ} 0 1 = cc (g .1) in omega arith) (f .1)) (d .1)) (c .1)) (b .1)) (a .1)) laid
+
+pub only-passes : (present : ℕ) (bs : List ℕ) (v : Verdict) (one two : Section) → Sound present bs v one two →
+    (o : Result Layout Refused) → Laid present bs o → errPart o ≡ None
+only-passes present bs v one two sound (Ok l) laid = refl
+only-passes present bs v one two sound (Err e) laid = absurd (never-refused present bs v one two sound e laid)

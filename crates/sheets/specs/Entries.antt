@@ -4,12 +4,15 @@
 --   from, to, rule, reader, second     its five bytes, by what they say
 --   next n k                           the place of the step behind the one at place k, of n: behind the last is the first
 --   Stands ss k s                      the bytes of the step s stand at place k
+--   StepAt ss k r                      r is the step that stands at place k; it is none where no step's bytes stand there
 use mathlib.Core.Path.{_≡_}
 use mathlib.Core.Bool.{cond}
 use mathlib.Core.List.{List}
 use Prim.Native.Nat.{ℕ, _+_, _*_}
 use lib.Dec.{ltb}
 use lib.ListN.{getD, take, drop}
+use Rattle.std.specs.Options.{Cases}
+use Rattle.std.specs.declared.option.Option.{Option}
 use Rattle.sheets.specs.declared.step.Step.{Step}
 use Rattle.sheets.specs.Steps.{step-bytes}
 
@@ -36,3 +39,6 @@ next n k = cond (ltb (k + 1) n) (k + 1) 0
 
 abbrev pub Stands : List ℕ → ℕ → Step → Type 0
 Stands ss k s = take 5 (drop (k * 5) ss) ≡ step-bytes s
+
+abbrev pub StepAt : List ℕ → ℕ → Option Step → Type 0
+StepAt ss k r = Cases r ((s : Step) → Stands ss k s → ⊥) (Stands ss k)

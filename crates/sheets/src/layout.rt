@@ -5,8 +5,7 @@ ghost use Prim.Native.Nat.{_/_};
 ghost use lib.ListN.{length};
 ghost use Rattle.std.specs.Finite.{nth};
 ghost use Rattle.std.specs.Joined.{joined};
-ghost use Rattle.std.specs.Options.{Cases as BySome};
-ghost use Rattle.sheets.specs.Entries.{Stands};
+ghost use Rattle.sheets.specs.Entries.{StepAt};
 ghost use Rattle.sheets.specs.Steps.{step-bytes};
 ghost use Rattle.sheets.specs.declared.step.Step.{Step};
 use crate::step::STEP_SIZE;
@@ -34,7 +33,7 @@ impl Layout<'_> {
 
     /// The step at a place, from 0. There is none past the last, nor where the bytes are those of no step.
     pub fn step(&self, place: usize) -> Option<Step>
-        ensures value { λ r. ⌜ BySome r ((s : Step) → Stands (now (now (self .entry) .steps)) place s → ⊥) (λ s. Stands (now (now (self .entry) .steps)) place s) ⌝ }
+        ensures value { λ r. ⌜ StepAt (now (now (self .entry) .steps)) place r ⌝ }
         ensures told { λ r. ⌜ ((ts : List Step) → now (now (self .entry) .steps) ≡ joined step-bytes ts → r ≡ nth ts place) ⌝ }
     {
         step_at(self.steps, place)
@@ -43,7 +42,7 @@ impl Layout<'_> {
 
 // The step at a place of the bytes of steps.
 pub(crate) fn step_at(steps: &[u8], place: usize) -> Option<Step>
-    ensures { λ r. ⌜ BySome r ((s : Step) → Stands (now (steps .entry)) place s → ⊥) (λ s. Stands (now (steps .entry)) place s) ⌝ }
+    ensures { λ r. ⌜ StepAt (now (steps .entry)) place r ⌝ }
 {
     if place >= steps.len() / STEP_SIZE {
         return None;

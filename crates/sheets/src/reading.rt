@@ -3,11 +3,13 @@ ghost use mathlib.Core.Path.{_≡_};
 ghost use Prim.Native.Nat.{_<_, _≤_};
 ghost use lib.ListN.{length};
 ghost use Rattle.std.specs.Orderings.{Decides};
-ghost use Rattle.std.specs.Results.{Cases};
+ghost use Rattle.std.specs.Results.{Cases, errPart};
+ghost use Rattle.std.specs.declared.result.Result.{Result};
 ghost use Rattle.graph.specs.declared.refusal.Refused.{Refused};
 ghost use Rattle.sections.specs.Sections.{Whole};
 ghost use Rattle.sheets.specs.Layouts.{at, Says, RightCount, BadVerdict, CutIn, Laid};
 ghost use Rattle.sheets.specs.WellLaid.{Layouts};
+ghost use Rattle.sheets.specs.declared.layout.Layout.{Layout};
 use crate::faults::first_fault;
 use crate::layout::Layout;
 use crate::step::STEP_SIZE;
@@ -26,6 +28,7 @@ use sections::Section;
 /// behind the sheet (0, 0). What the push order lists is no matter of layout.
 pub fn read_layout(bytes: &[u8], present: u8) -> Result<Layout<'_>, Refused>
     ensures outcome { λ r. ⌜ Laid present (now (bytes .entry)) r ⌝ }
+    ensures only { λ r. ⌜ ((other : Result Layout Refused) → Laid present (now (bytes .entry)) other → errPart other ≡ errPart r) ⌝ }
     ensures told { λ r. ⌜ Layouts present (now (bytes .entry)) r ⌝ }
 {
     let verdict = read_verdict(bytes)?;

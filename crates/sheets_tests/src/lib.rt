@@ -1,0 +1,3 @@
+// Tests of the crates `sections` and `sheets`, in a crate of their own.
+#[cfg(test)]
+mod tests;
