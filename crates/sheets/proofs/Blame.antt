@@ -6,8 +6,6 @@ use Prim.Native.Nat.{ℕ, _+_, _*_, _<_, _≤_}
 use native.Mathlib.Omega.{arith}
 use lib.ListN.{length, getD}
 use Rattle.std.proofs.shelf.Tests.{cases-lt, cases-eq}
-use Rattle.axioms.specs.Rules.{number}
-use Rattle.axioms.specs.declared.rule.Rule.{Rule}
 use Rattle.sheets.specs.declared.step.Step.{Step}
 use Rattle.sheets.specs.declared.verdict.Verdict.{Verdict}
 use Rattle.sheets.specs.Entries.{from, to, rule, reader, second, next, Stands}

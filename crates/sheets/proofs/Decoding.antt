@@ -1,6 +1,5 @@
 -- Bytes that are those of some steps, and of no others; sheets that have the same bytes.
 use mathlib.Core.Path.{_≡_, refl, sym, ap, _∙_}
-use mathlib.Core.Logic.{inl, inr}
 use mathlib.Core.List.{List, [], _∷_, _++_}
 use Prim.Native.Nat.{ℕ, zero, suc, _+_, _*_, _<_}
 use native.Mathlib.Omega.{arith}
@@ -11,7 +10,7 @@ use Rattle.axioms.specs.Rules.{number}
 use Rattle.axioms.specs.declared.rule.Rule.{Rule}
 use Rattle.sheets.specs.declared.step.Step.{Step}
 use Rattle.sheets.specs.declared.verdict.Verdict.{Verdict}
-use Rattle.sheets.specs.Entries.{byte, rule}
+use Rattle.sheets.specs.Entries.{rule}
 use Rattle.sheets.specs.Sheets.{Sheet, encode}
 use Rattle.sheets.specs.Steps.{step-bytes}
 use Rattle.sheets.proofs.Naming.{same-verdict}

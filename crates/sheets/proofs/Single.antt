@@ -17,7 +17,7 @@ use Rattle.sections.specs.Sections.{entry-number}
 use Rattle.sections.proofs.Cutting.{cut-once}
 use Rattle.sheets.specs.declared.layout.Layout.{Layout}
 use Rattle.sheets.specs.Checks.{FirstOf}
-use Rattle.sheets.specs.Faults.{Fault, FirstFault}
+use Rattle.sheets.specs.Faults.{FirstFault}
 use Rattle.sheets.specs.Layouts.{at, step-count, step-part, steps-at, CutIn, FaultyStep, Laid, checks}
 use Rattle.sheets.proofs.Naming.{same-verdict}
 

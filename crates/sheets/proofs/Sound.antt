@@ -4,9 +4,8 @@
 --   Sound present bs v one two   no check finds a fault
 use mathlib.Core.Path.{_≡_, refl, sym, ap, subst, _∙_}
 use mathlib.Core.Logic.{inl, inr, ⊎-elim}
-use mathlib.Core.Bool.{true, false}
 use mathlib.Core.List.{List}
-use Prim.Native.Nat.{ℕ, _+_, _*_, _<_, _≤_}
+use Prim.Native.Nat.{ℕ, _+_, _<_, _≤_}
 use native.Mathlib.Omega.{arith}
 use lib.ListN.{length, getD}
 use Rattle.std.specs.Holes.{between}
@@ -16,9 +15,7 @@ use Rattle.std.specs.declared.result.Result.{Result}
 use Rattle.std.specs.declared.result.Result.the-variants.{Ok, Err}
 use Rattle.graph.specs.declared.refusal.Refused.{Refused}
 use Rattle.sections.specs.declared.Section.{Section}
-use Rattle.sections.specs.declared.Cut.{Cut}
-use Rattle.sections.specs.declared.Cut.the-variants.{NoCount, InEntry}
-use Rattle.sections.specs.Sections.{entry-end, Whole, Ended}
+use Rattle.sections.specs.Sections.{entry-end, Whole}
 use Rattle.sheets.specs.declared.layout.Layout.{Layout}
 use Rattle.sheets.specs.declared.verdict.Verdict.{Verdict}
 use Rattle.sheets.specs.Faults.{Fault, FirstFault}

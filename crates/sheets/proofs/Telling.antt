@@ -4,7 +4,7 @@ use mathlib.Core.Logic.{inl, inr}
 use mathlib.Core.List.{List, [], _∷_, _++_}
 use Prim.Native.Nat.{ℕ, _+_, _-_, _*_, _<_, _≤_}
 use native.Mathlib.Omega.{arith}
-use lib.ListN.{length, getD, take, drop, length-append}
+use lib.ListN.{length, getD, drop, length-append}
 use Rattle.std.specs.Holes.{between}
 use Rattle.std.specs.Joined.{joined}
 use Rattle.std.proofs.shelf.Edits.{length-between}
@@ -27,7 +27,7 @@ use Rattle.sheets.specs.WellLaid.{WellLaid, Told}
 use Rattle.sheets.proofs.Bytes.{length-steps}
 use Rattle.sheets.proofs.Decoding.{Decoded, decoded, same-sheet}
 use Rattle.sheets.proofs.Naming.{rule-known}
-use Rattle.sheets.proofs.Sound.{Sound, CutOut, steps-of, never-refused}
+use Rattle.sheets.proofs.Sound.{Sound, steps-of, never-refused}
 use Rattle.sheets.proofs.Steps.{not-faulty, named-all, closed-chain, distinct-starts}
 
 -- The bytes part by part, where the second section begins at p and ends with them.

@@ -1,5 +1,4 @@
-use mathlib.Core.Path.{refl, sym}
-use native.Mathlib.Omega.{arith}
+use mathlib.Core.Path.{refl}
 use Rattle.std.proofs.shelf.Results.{err-from-errBy}
 use Rattle.std.proofs.shelf.Ways.{not-from-decides}
 use Rattle.sheets.proofs.Single.{one-answer}

@@ -1,14 +1,10 @@
-use mathlib.Core.Path.{_≡_, refl, sym, ap, subst, _∙_}
-use mathlib.Core.Logic.{inl, inr, ⊎-elim}
-use mathlib.Core.List.{[], _∷_}
-use Prim.Native.Nat.{_+_, _*_}
+use mathlib.Core.Path.{refl, _∙_}
+use mathlib.Core.Logic.{⊎-elim}
+use mathlib.Core.List.{[]}
+use Prim.Native.Nat.{_+_}
 use native.Mathlib.Omega.{arith}
-use lib.ListN.{length, take}
-use lib.Seq.{paste}
-use Rattle.std.specs.Joined.{joined}
+use lib.ListN.{length}
 use Rattle.std.proofs.shelf.Edits.{paste-none}
-use Rattle.std.proofs.shelf.Lists.{take-all}
-use Rattle.sheets.specs.Steps.{step-bytes}
 use Rattle.sheets.proofs.Fronts.{one-step-more, wrote, front-head}
 use Rattle.sheets.proofs.writing.write_sheet.Needs as need
 
