@@ -1,13 +1,12 @@
 -- A step of coherence holds where the write is visible or a read shows it.
 use mathlib.Core.Path.{_≡_, refl, ap}
 use mathlib.Core.Logic.{_⊎_, inl, inr}
-use mathlib.Core.Bool.{Bool, true, false}
+use mathlib.Core.Bool.{true, false}
 use mathlib.Core.List.{List}
 use Prim.Native.Nat.{ℕ, _+_, _-_, _<_, _≤_}
 use native.Mathlib.Omega.{arith}
 use borrow.Author.Count.{below-more}
 use lib.ListN.{getD, length}
-use Rattle.std.specs.Orderings.{Decides}
 use Rattle.std.proofs.shelf.Tests.{both-ways, cond-true, lt-ltb, false≢true}
 use Rattle.graph.specs.declared.event.Event.{Event}
 use Rattle.graph.specs.Codes.{is-read}

@@ -14,9 +14,8 @@ use Rattle.std.specs.declared.option.Option.{Option}
 use Rattle.std.specs.declared.option.Option.the-variants.{Some, None}
 use Rattle.std.proofs.shelf.Tests.{cases-lt, cases-order, both-ways, false≢true}
 use Rattle.graph.specs.declared.event.Event.{Event}
-use Rattle.graph.specs.Order.{Po, Rf}
 use Rattle.profiles.specs.Meaning.{Meaning}
-use Rattle.axioms.specs.Naming.{Unused, NotLater, Named, FirstNamed, Lowest, LowestPair}
+use Rattle.axioms.specs.Naming.{Unused, NotLater, Named, FirstNamed, LowestPair}
 use Rattle.axioms.specs.Relations.{Holds, Co}
 use Rattle.axioms.specs.Rules.{number, is-coherence}
 use Rattle.axioms.specs.declared.naming.NamedStep.{NamedStep}

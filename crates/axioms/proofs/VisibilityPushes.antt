@@ -1,7 +1,7 @@
 -- Push steps, added from the last listed event to the first.
 use mathlib.Core.Path.{_≡_, refl, sym, ap, subst, _∙_}
 use mathlib.Core.Logic.{_⊎_, inl, inr}
-use mathlib.Core.Bool.{Bool, true, false, _||_}
+use mathlib.Core.Bool.{true, false, _||_}
 use mathlib.Core.List.{List}
 use Prim.Native.Nat.{ℕ, _+_, _*_, _<_, _≤_}
 use native.Mathlib.Nat.{zero-add, mul-le-mul-right, add-mul, one-mul}
@@ -13,7 +13,6 @@ use Rattle.std.proofs.shelf.Tests.{cases-lt, cases-order, false≢true}
 use Rattle.std.proofs.shelf.Ways.{decides-at, decides-like, decides-or}
 use Rattle.measures.specs.Reach.{yes}
 use Rattle.measures.specs.Walks.{at, Yes}
-use Rattle.axioms.specs.Orders.{Before}
 use Rattle.axioms.specs.Visibility.{RowJoined, Gained, PushedLater}
 
 -- An event that stands at the place k of L or later is pushed to c.

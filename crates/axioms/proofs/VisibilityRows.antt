@@ -1,14 +1,14 @@
 -- A run of yes/no values gains those of another, value by value.
 use mathlib.Core.Path.{_≡_, refl, sym, ap, subst, _∙_}
 use mathlib.Core.Logic.{inl, inr, _≢_}
-use mathlib.Core.Bool.{Bool, true, false, not, _||_}
+use mathlib.Core.Bool.{not, _||_}
 use mathlib.Core.List.{List}
-use Prim.Native.Nat.{ℕ, _+_, _<_, _≤_}
+use Prim.Native.Nat.{ℕ, _+_, _<_}
 use native.Mathlib.Omega.{arith}
-use lib.Bits.{bitOr, bitAnd, or-zero-l, or-add-and, and-le-l, and-le-r}
+use lib.Bits.{bitOr, or-zero-l, or-add-and, and-le-l, and-le-r}
 use lib.ListN.{getD, set, length}
 use Rattle.std.proofs.shelf.Lists.{getD-set-same, getD-set-other}
-use Rattle.std.proofs.shelf.Tests.{cases-lt, cases-eq, ne-eqb, eq-eqb}
+use Rattle.std.proofs.shelf.Tests.{cases-lt, cases-eq, ne-eqb}
 use Rattle.measures.specs.Reach.{yes}
 use Rattle.axioms.specs.Visibility.{RowJoined}
 

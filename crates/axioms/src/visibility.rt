@@ -1,5 +1,4 @@
 // The table of visibility: what leads where by steps of reads-from, kept pairs and push steps.
-ghost use mathlib.Core.Path.{_≡_};
 ghost use Prim.Native.Nat.{_+_, _≤_};
 ghost use lib.ListN.{length};
 ghost use Rattle.measures.specs.Outcome.{Square};

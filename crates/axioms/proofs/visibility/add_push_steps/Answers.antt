@@ -10,13 +10,11 @@ part-join-row-end c = sym (c .loop-i .inv .0)
 
 pub join-row-requires : need.join-row-requires
 join-row-requires c κs =
-    let e = getD (c .args .list .now) (c .loop-i .i - 1) 0 in
-    record { into = omega (arith, row-within e (c .args .side) (c .if-event-side .taken), c .pre .shape .1); row = omega arith }
+    record { into = omega (arith, row-within _ (c .args .side) (c .if-event-side .taken), c .pre .shape .1); row = omega arith }
 
 pub join-row-requires-then-event-side : need.join-row-requires-then-event-side
 join-row-requires-then-event-side c κs =
-    let e = getD (c .args .list .now) (c .loop-i .i - 1) 0 in
-    record { into = omega arith; row = omega (arith, row-within e (c .args .side) (c .if-event-side .taken), c .pre .square .1) }
+    record { into = omega arith; row = omega (arith, row-within _ (c .args .side) (c .if-event-side .taken), c .pre .square .1) }
 
 pub loop-i-holds : need.loop-i-holds
 loop-i-holds c =

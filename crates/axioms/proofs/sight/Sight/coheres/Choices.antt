@@ -1,4 +1,3 @@
-use Prim.Native.Nat.{ℕ, _<_}
 use Rattle.axioms.specs.Sights.{Throughout}
 use Rattle.axioms.proofs.Cohering.{NoneShows}
 use Rattle.axioms.proofs.sight.Sight.coheres.Given as given

@@ -2,11 +2,9 @@ use mathlib.Core.Path.{_≡_, sym, subst}
 use Prim.Native.Nat.{_+_, _*_}
 use native.Mathlib.Omega.{arith}
 use lib.ListN.{length}
-use Rattle.std.specs.Orderings.{Decides}
 use Rattle.std.proofs.shelf.Ways.{decides-at}
 use Rattle.measures.specs.Reach.{yes}
 use Rattle.axioms.specs.Relations.{Co}
-use Rattle.axioms.specs.Sights.{Throughout}
 use Rattle.axioms.proofs.Drawing.{drawn-none, drawn-more, drawn-all, place-within, next-row}
 use Rattle.axioms.proofs.sight.Sight.draw_coherence.Needs as need
 use Rattle.axioms.proofs.sight.Sight.draw_coherence.Needs.{then-coheres, else-coheres}

@@ -1,6 +1,4 @@
-use mathlib.Core.Path.{_≡_}
 use native.Mathlib.Omega.{arith}
-use Rattle.std.proofs.shelf.Tests.{false≢true}
 use Rattle.measures.proofs.Tables.{place-in}
 use Rattle.axioms.proofs.sight.Sight.has_way.Needs as need
 
