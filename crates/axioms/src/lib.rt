@@ -1,4 +1,6 @@
 // The relations of an execution graph, push orders, and the axiom on program order and reads-from.
+#![tactic(auto)]
+
 pub mod lawful;
 pub mod pairs;
 pub mod push_order;

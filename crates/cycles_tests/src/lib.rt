@@ -1,4 +1,6 @@
 // Examples for cycles.
+#![tactic(auto)]
+
 #[cfg(test)]
 mod tests {
     use cycles::exists::has_cycle;

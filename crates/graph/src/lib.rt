@@ -1,5 +1,7 @@
 // Execution graphs: events, program order and reads-from; graphs in lent memory, the calls that
 // change them and their history; the refusals of the marker.
+#![tactic(auto)]
+
 pub mod call;
 mod checks;
 pub mod code;

@@ -1,4 +1,6 @@
 // Draws the execution graph of a script of calls, and looks for cycles.
+#![tactic(auto)]
+
 mod graphs;
 mod lists;
 

@@ -1,4 +1,6 @@
 // Marking: a sheet that somebody brings, checked against a graph.
+#![tactic(auto)]
+
 ghost use Rattle.std.specs.Prelude.{◌≡◌, Result, MatchResult};
 ghost use Rattle.graph.specs.declared.refusal.Refused.{Refused};
 ghost use Rattle.graph.specs.Holds.{added_events};

@@ -2,6 +2,8 @@
 //
 // A measure says what one step is worth, how the worth of two parts of a path is joined, and which of
 // two paths is the better. Settling a table is then proved once, for every measure, from its laws.
+#![tactic(auto)]
+
 pub mod measure;
 pub mod reach;
 pub mod settling;

@@ -32,7 +32,7 @@ impl Refusal {
 /// `cells` holds the table row by row. Where `side` is above 64, or `cells` has not `side` × `side` values,
 /// the call is refused and `cells` is as it was.
 pub fn settle<M: Measure>(cells: &mut [M::Value], side: usize) -> Result<(), Refusal>
-    ensures { Outcome none joined better means side cells.old cells.new result }
+    ensures { Outcome M.none M.joined M.better M.means side cells.old cells.new result }
 {
     if side > LARGEST {
         return Err(Refusal::NotSquare);
@@ -52,7 +52,7 @@ pub fn settle<M: Measure>(cells: &mut [M::Value], side: usize) -> Result<(), Ref
 fn round<M: Measure>(cells: &mut [M::Value], side: usize, via: usize)
     requires square { Square side cells.old }
     requires vertex { via < side }
-    ensures { RowsRelaxed joined better side via 0 side (entry means none side cells.old) (entry means none side cells.new) }
+    ensures { RowsRelaxed M.joined M.better side via 0 side (entry M.means M.none side cells.old) (entry M.means M.none side cells.new) }
 {
     relax_rows::<M>(cells, side, via, 0, via);
     relax_rows::<M>(cells, side, via, via + 1, side);
@@ -63,7 +63,7 @@ fn relax_rows<M: Measure>(cells: &mut [M::Value], side: usize, via: usize, from:
     requires square { Square side cells.old }
     requires vertex { via < side }
     requires rows { (from ≤ to) × (to ≤ side) }
-    ensures { RowsRelaxed joined better side via from to (entry means none side cells.old) (entry means none side cells.new) }
+    ensures { RowsRelaxed M.joined M.better side via from to (entry M.means M.none side cells.old) (entry M.means M.none side cells.new) }
 {
     let none = M::no_path();
     for row in from..to {
@@ -80,7 +80,7 @@ fn relax<M: Measure>(cells: &mut [M::Value], side: usize, via: usize, row: usize
     requires square { Square side cells.old }
     requires vertex { via < side }
     requires row { row < side }
-    ensures { RowRelaxed joined better side via row side (entry means none side cells.old) (entry means none side cells.new) }
+    ensures { RowRelaxed M.joined M.better side via row side (entry M.means M.none side cells.old) (entry M.means M.none side cells.new) }
 {
     let there = cells[place(side, row, via)];
     for j in 0..side {

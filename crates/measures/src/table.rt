@@ -60,7 +60,7 @@ impl<'a, M: Measure> Table<'a, M> {
     pub fn settle(&mut self) -> Result<(), Refusal>
         ensures lent { self.new.cells.ghost_name ≡ self.old.cells.ghost_name }
         ensures side { self.new.side ≡ self.old.side }
-        ensures outcome { Outcome none joined better means self.old.side self.old.cells.now self.new.cells.now result }
+        ensures outcome { Outcome M.none M.joined M.better M.means self.old.side self.old.cells.now self.new.cells.now result }
     {
         let side = self.side;
         settle::<M>(self.cells, side)

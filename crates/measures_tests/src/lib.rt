@@ -1,4 +1,6 @@
 // Examples for the measures and for settling.
+#![tactic(auto)]
+
 #[cfg(test)]
 mod tests {
     use measures::measure::Measure;

@@ -1,4 +1,6 @@
 // What the program reads and says, apart from reaching outside.
+#![tactic(auto)]
+
 pub mod drawing;
 pub mod options;
 pub mod pairs;

@@ -1,4 +1,6 @@
 // Examples of what the program reads and writes.
+#![tactic(auto)]
+
 #[cfg(test)]
 mod tests {
     use graph::call::Call;

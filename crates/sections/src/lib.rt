@@ -1,4 +1,6 @@
 // Byte strings cut into counted sections: a count of one byte, then as many entries of one size.
+#![tactic(auto)]
+
 ghost use Rattle.std.specs.Prelude.{◌≡◌, Result};
 ghost use Rattle.sections.specs.Sections.{entry_number, Sectioned};
 ghost use Rattle.sections.specs.declared.Section.{Section};

@@ -1,4 +1,6 @@
 // Settling for callers from C: the slice goes over as a pointer and a length.
+#![tactic(auto)]
+
 ghost use Rattle.std.specs.Prelude.{◌≡◌};
 ghost use Rattle.measures.specs.Walks.{Reachable, Fewest};
 ghost use Rattle.settle_c.specs.Status.{Status, status_of};

@@ -1,4 +1,6 @@
 // A profile of another crate: total store order, as a maker of an x86-like chip might write it.
+#![tactic(auto)]
+
 ghost use Rattle.std.specs.Prelude.{◌≡◌};
 ghost use Rattle.tso.specs.Tso.{delayed, tso, Rules-stand};
 ghost use Rattle.tso.specs.TsoLaws.{tso_lawful};

@@ -28,7 +28,7 @@ loop-row-preserved g c =
           (row_cut_off m.laws n k i t₁
           (entry_at m.means m.none n c.loop-row.cells i k c.place.result c.index-cells-place.result (omega arith)
           (omega arith) c.requires.vertex c.place.ensures.is c.index-cells-place.is
-          ∙ c.same.ensures.0 w.if-not-same.false ∙ c.no-path-none.ensures))
+          ∙ c.same.ensures.0 w.if-not-same.false ∙ c.no_path-none.ensures))
           c.loop-row.auto.row)
     ]
 

@@ -8,8 +8,8 @@ returns g c =
     let n = c.args.side in
     rows_all m.laws n c.args.via
     (entry m.means m.none n c.args.cells.now)
-    (entry m.means m.none n c.relax-rows.new.cells)
-    (entry m.means m.none n c.relax-rows-2.new.cells)
+    (entry m.means m.none n c.relax_rows.new.cells)
+    (entry m.means m.none n c.relax_rows-2.new.cells)
     c.requires.vertex
-    c.relax-rows.ensures
-    c.relax-rows-2.ensures
+    c.relax_rows.ensures
+    c.relax_rows-2.ensures
