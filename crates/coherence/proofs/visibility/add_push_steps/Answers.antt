@@ -2,15 +2,15 @@ use Rattle.std.proofs.Common.{◌≡◌, ◌+◌, ◌-◌, ◌<◌, ◌≤◌, l
 use Rattle.coherence.proofs.VisibilityPushes.{PushedFrom, pushed_none, pushed_skip, pushed_more, pushed_all, row_within}
 use Rattle.coherence.proofs.visibility.add_push_steps.Goals as goal
 
-pub slice-bounds-join-row-end : goal.slice-bounds-join-row-end
-slice-bounds-join-row-end c = sym c.loop-i.invariant.0
+pub slice_bounds-join_row-end : goal.slice_bounds-join_row-end
+slice_bounds-join_row-end c = sym c.loop-i.invariant.0
 
-pub join-row-requires : goal.join-row-requires
-join-row-requires c =
+pub join_row-requires : goal.join_row-requires
+join_row-requires c =
     record { into = omega (arith, row_within _ c.args.side c.if-event-side.true, c.requires.shape.1); row = omega arith }
 
-pub join-row-requires-then-event-side : goal.join-row-requires-then-event-side
-join-row-requires-then-event-side c =
+pub join_row-requires-then-event-side : goal.join_row-requires-then-event-side
+join_row-requires-then-event-side c =
     record { into = omega arith; row = omega (arith, row_within _ c.args.side c.if-event-side.true, c.requires.square.1) }
 
 pub loop-i-init : goal.loop-i-init
@@ -32,15 +32,15 @@ loop-i-preserved-then-event-side c =
     let next : c.loop-i.i ≡ k + 1 = omega arith in
     let within : k < length c.args.list.now = omega arith in
     let so_far = subst (λ i. PushedFrom c.args.side c.args.pushed.now c.args.list.now i c.args.cells.now c.loop-i.cells c.loop-i.later) next c.loop-i.invariant.1 in (
-      omega (arith, c.join-row-then-event-side.auto.into),
+      omega (arith, c.join_row-then-event-side.auto.into),
       pushed_more c.args.side c.args.pushed.now c.args.list.now k within c.args.cells.now c.loop-i.cells c.loop-i.later so_far
           (get_or c.args.list.now k 0)
           refl
           c.if-event-side.true
-          c.join-row.new.into
-          c.join-row-then-event-side.new.into
-          c.join-row.ensures
-          c.join-row-then-event-side.ensures,
+          c.join_row.new.into
+          c.join_row-then-event-side.new.into
+          c.join_row.ensures
+          c.join_row-then-event-side.ensures,
     )
 
 pub returns : goal.returns

@@ -4,7 +4,7 @@ use Rattle.graph.specs.Order.{Names}
 use Rattle.coherence.specs.Visibility.{Gained}
 use Rattle.coherence.proofs.VisibilitySources.{RfBelow, names_past, sourced_none, sourced_more, sourced_skip, sourced_all}
 use Rattle.coherence.proofs.visibility.add_sources.Goals as goal
-use Rattle.coherence.proofs.visibility.add_sources.Goals.{in-Some+then-row-side, in-Some+else-row-side, in-default}
+use Rattle.coherence.proofs.visibility.add_sources.Goals.{in-Some+then-row-side, in-Some+else-row-side, in_default}
 
 pub bounds-cells-row : goal.bounds-cells-row
 bounds-cells-row c =
@@ -31,9 +31,9 @@ loop-i-preserved c =
       | in-Some+else-row-side w ↦
           subst (Gained n (RfBelow es (i + 1)) old) (sym w.cells-is)
           (sourced_skip es i c.loop-i-test.true old c.loop-i.cells so_far (names_past w.in-Some.source n _ w.in-Some.is w.if-row-side.false))
-      | in-default w ↦
+      | in_default w ↦
           subst (Gained n (RfBelow es (i + 1)) old) (sym w.cells-is)
-          (sourced_skip es i c.loop-i-test.true old c.loop-i.cells so_far (λ v _ names. subst (λ s. Names s v) w.in-default.is names))
+          (sourced_skip es i c.loop-i-test.true old c.loop-i.cells so_far (λ v _ names. subst (λ s. Names s v) w.in_default.is names))
     ]
 
 pub returns : goal.returns

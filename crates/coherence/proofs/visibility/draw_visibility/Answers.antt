@@ -7,12 +7,12 @@ pub returns : goal.returns
 returns c =
     let es = c.args.events.now in
     let n = length es + 8 in
-    let steps = subst (λ xs. Gained n (PushedLater n c.args.pushed.now c.args.list.now) xs c.add-push-steps.new.cells)
-    c.copy-from-slice.ensures.after c.add-push-steps.ensures in
-    drawing es c.args.list.now c.args.kept.now c.args.pushed.now c.args.cells.now c.add-push-steps.new.cells c.add-sources.new.cells c.settle-reach.new.cells c.settle-reach.result
+    let steps = subst (λ xs. Gained n (PushedLater n c.args.pushed.now c.args.list.now) xs c.add_push_steps.new.cells)
+    c.copy_from_slice.ensures.after c.add_push_steps.ensures in
+    drawing es c.args.list.now c.args.kept.now c.args.pushed.now c.args.cells.now c.add_push_steps.new.cells c.add_sources.new.cells c.settle_reach.new.cells c.settle_reach.result
     ((omega arith, omega arith), ((omega arith, omega arith), (omega arith, omega arith)))
     (omega arith, omega arith)
     (omega arith, omega arith)
     steps
-    c.add-sources.ensures
-    c.settle-reach.ensures
+    c.add_sources.ensures
+    c.settle_reach.ensures

@@ -4,12 +4,12 @@ use Rattle.cycles.proofs.exists.has_cycle.Goals as goal
 
 pub returns-then-cells-place-ne0 : goal.returns-then-cells-place-ne0
 returns-then-cells-place-ne0 c =
-    let ys = c.settle-reach.new.cells in
-    let done = c.in-ok-settle-reach.ensures in
+    let ys = c.settle_reach.new.cells in
+    let done = c.in_ok-settle_reach.ensures in
     loops c.args.side c.args.cells.now ys done.0 done.1 c.loop-v.v c.loop-v-test.true
     (λ e. c.if-cells-place-ne0.true (ap (λ p. get_or ys p 0) c.place.ensures.is ∙ e))
 
 pub returns : goal.returns
 returns c =
-    let done = c.in-ok-settle-reach.ensures in
-    no_loops c.args.side c.args.cells.now c.settle-reach.new.cells done.0 done.1 (λ k h. c.loop-v.invariant k (omega arith))
+    let done = c.in_ok-settle_reach.ensures in
+    no_loops c.args.side c.args.cells.now c.settle_reach.new.cells done.0 done.1 (λ k h. c.loop-v.invariant k (omega arith))

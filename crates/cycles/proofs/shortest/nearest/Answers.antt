@@ -16,12 +16,12 @@ loop-v-preserved c =
       | else-count-least w ↦ simp (w.at-is, w.least-is) (no_better n ys c.loop-v.v c.loop-v.at c.loop-v.least _ c.loop-v.invariant e w.if-count-least.false)
     ]
 
-pub returns-then-least-le-MOST-STEPS : goal.returns-then-least-le-MOST-STEPS
-returns-then-least-le-MOST-STEPS c =
+pub returns-then-least-le-MOST_STEPS : goal.returns-then-least-le-MOST_STEPS
+returns-then-least-le-MOST_STEPS c =
     let all : c.loop-v.v ≡ c.args.side = omega arith in
-    found_nearest _ _ _ _ (subst (λ v. SoFar c.args.side c.args.counts.now v c.loop-v.at c.loop-v.least) all c.loop-v.invariant) c.if-least-le-MOST-STEPS.true
+    found_nearest _ _ _ _ (subst (λ v. SoFar c.args.side c.args.counts.now v c.loop-v.at c.loop-v.least) all c.loop-v.invariant) c.if-least-le-MOST_STEPS.true
 
-pub returns-else-least-le-MOST-STEPS : goal.returns-else-least-le-MOST-STEPS
-returns-else-least-le-MOST-STEPS c =
+pub returns-else-least-le-MOST_STEPS : goal.returns-else-least-le-MOST_STEPS
+returns-else-least-le-MOST_STEPS c =
     let all : c.loop-v.v ≡ c.args.side = omega arith in
-    none_near _ _ _ _ (subst (λ v. SoFar c.args.side c.args.counts.now v c.loop-v.at c.loop-v.least) all c.loop-v.invariant) c.if-least-le-MOST-STEPS.false
+    none_near _ _ _ _ (subst (λ v. SoFar c.args.side c.args.counts.now v c.loop-v.at c.loop-v.least) all c.loop-v.invariant) c.if-least-le-MOST_STEPS.false

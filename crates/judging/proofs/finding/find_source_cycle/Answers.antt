@@ -11,7 +11,7 @@ use Rattle.judging.proofs.finding.find_source_cycle.Goals as goal
 pub lay-requires : goal.lay-requires
 lay-requires c =
     let R = SourceStep c.args.events.now in
-    let w = subst (CycleOrNone R _ c.source-cycle.new.cycle) c.in-Some.is c.in-Ok.ensures.1 in
+    let w = subst (CycleOrNone R _ c.source_cycle.new.cycle) c.in-Some.is c.in-Ok.ensures.1 in
     record {
       few = omega (arith, front_long R _ _ _ w, w.room);
       closed = front_closed R _ _ _ w;
@@ -21,8 +21,8 @@ pub returns-in-Some : goal.returns-in-Some
 returns-in-Some c =
     let es = c.args.events.now in
     let R = SourceStep es in
-    let w = subst (CycleOrNone R _ c.source-cycle.new.cycle) c.in-Some.is c.in-Ok.ensures.1 in
-    let vs = take (c.in-Some.count - 0) c.source-cycle.new.cycle in
+    let w = subst (CycleOrNone R _ c.source_cycle.new.cycle) c.in-Some.is c.in-Ok.ensures.1 in
+    let vs = take (c.in-Some.count - 0) c.source_cycle.new.cycle in
     let long : length vs ≡ c.in-Some.count = front_long R _ _ _ w in (
       w.room,
       λ m L. subst (λ k. LeastChain R m es L SourceCycle (take k c.lay.new.steps)) long

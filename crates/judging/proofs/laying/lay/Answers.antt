@@ -6,7 +6,7 @@ pub name-named-requires : goal.name-named-requires
 name-named-requires g c =
     let vs = c.args.cycle.now in
     let i = c.loop-i.i in
-    subst (g.N.Namer.related c.args.namer.now (get_or vs i 0)) (sym c.next-of-to.ensures)
+    subst (g.N.Namer.related c.args.namer.now (get_or vs i 0)) (sym c.next_of-to.ensures)
     (closed_next (g.N.Namer.related c.args.namer.now) vs c.requires.closed i c.loop-i-test.true)
 
 pub loop-i-preserved : goal.loop-i-preserved
@@ -18,8 +18,8 @@ loop-i-preserved g c =
       laid_more N vs c.loop-i.steps _ i (omega arith)
           (record {
             from = refl;
-            to = c.next-of-to.ensures;
-            named = subst (λ q. N (get_or vs i 0) q c.name-named.result) c.next-of-to.ensures c.name-named.ensures;
+            to = c.next_of-to.ensures;
+            named = subst (λ q. N (get_or vs i 0) q c.name-named.result) c.next_of-to.ensures c.name-named.ensures;
           })
           c.loop-i.invariant.1,
     )

@@ -6,21 +6,21 @@ use Rattle.marker.proofs.Keeping.{agreement, finds_permitted, finds_sequential}
 use Rattle.marker.proofs.examination.examine.Goals as goal
 use Rattle.marker.proofs.examination.examine.Goals.{in-Ok, in-Err}
 
-pub slice-bounds-mark-end : goal.slice-bounds-mark-end
-slice-bounds-mark-end g c =
+pub slice_bounds-mark-end : goal.slice_bounds-mark-end
+slice_bounds-mark-end g c =
     let within : c.in-Ok.length ≤ length c.judge-answers.new.buffer = wrote_within _ _ _ _ _ _ _ c.in-Ok.is c.judge-answers.ensures in
     search rules
 
 pub returns : goal.returns
 returns g c =
     let m = g.P.Profile.meaning c.args.profile.now in
-    let graph = c.perform-all.new.graph in
+    let graph = c.perform_all.new.graph in
     let es = added_events graph in
     let proper = graph_proper graph in
     record {
       promise = record {
-        history = subst (λ xs. Performed xs [] graph c.args.entries.now c.perform-all.new.entries) c.new-graph.ensures.slice
-            (c.perform-all.ensures.told [] c.new-graph.ensures.empty);
+        history = subst (λ xs. Performed xs [] graph c.args.entries.now c.perform_all.new.entries) c.new-graph.ensures.slice
+            (c.perform_all.ensures.told [] c.new-graph.ensures.empty);
         agreement = agreement m es proper;
         search = finds_permitted m es;
         single_order = finds_sequential m es proper;
@@ -34,5 +34,5 @@ returns g c =
           searched = c.search-answers.ensures.answered;
         };
       };
-      lent = c.perform-all.ensures.lent ∙ c.new-graph.ensures.lent;
+      lent = c.perform_all.ensures.lent ∙ c.new-graph.ensures.lent;
     }

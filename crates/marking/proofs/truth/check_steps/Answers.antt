@@ -8,8 +8,8 @@ returns-in-Some c = λ m L told ts e.
 
 pub returns-in-Clear : goal.returns-in-Clear
 returns-in-Clear c = λ m L told ts e.
-    then_clear m _ L _ _ (c.in-default.ensures.told m L told ts e) _ c.in-Clear.is c.check-clear.result (c.check-clear.ensures m L told)
+    then_clear m _ L _ _ (c.in_default.ensures.told m L told ts e) _ c.in-Clear.is c.check_clear.result (c.check_clear.ensures m L told)
 
 pub returns-in-SourceCycle : goal.returns-in-SourceCycle
 returns-in-SourceCycle c = λ m L told ts e.
-    (c.in-default.ensures.told m L told ts e, λ clear. absurd (not_clear _ c.in-SourceCycle.is clear))
+    (c.in_default.ensures.told m L told ts e, λ clear. absurd (not_clear _ c.in-SourceCycle.is clear))

@@ -8,25 +8,25 @@ pub loop-place-preserved : goal.loop-place-preserved
 loop-place-preserved c = λ m L told.
     below_more _ _ (c.loop-place.invariant m L told)
     (record {
-      step = c.in-ok-step.step;
-      stands = c.in-ok-step.ensures.value;
+      step = c.in_ok-step.step;
+      stands = c.in_ok-step.ensures.value;
       holds = (c.holds.ensures m L told).0 c.if-not-holds.false;
     })
 
-pub returns-in-err-step : goal.returns-in-err-step
-returns-in-err-step c =
+pub returns-in_err-step : goal.returns-in_err-step
+returns-in_err-step c =
     rw c.from-residual.ensures
     (record {
       low = tt;
       told = λ m L told ts e.
-          all_hold m _ L _ ts e c.loop-place.place (no_more _ ts c.loop-place.place e c.in-err-step.ensures.value) (c.loop-place.invariant m L told);
+          all_hold m _ L _ ts e c.loop-place.place (no_more _ ts c.loop-place.place e c.in_err-step.ensures.value) (c.loop-place.invariant m L told);
     })
 
 pub returns-then-not-holds : goal.returns-then-not-holds
 returns-then-not-holds c = record {
   low = c.loop-place-test.true;
   told = λ m L told ts e.
-      fails_first m _ L _ ts e c.loop-place.place c.in-ok-step.step c.in-ok-step.ensures.value
+      fails_first m _ L _ ts e c.loop-place.place c.in_ok-step.step c.in_ok-step.ensures.value
       (not_from_Decides _ (c.holds.ensures m L told) c.if-not-holds.true) (c.loop-place.invariant m L told);
 }
 

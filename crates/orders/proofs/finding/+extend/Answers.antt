@@ -4,7 +4,7 @@ use Rattle.orders.specs.Extending.{Lined}
 use Rattle.orders.specs.Orders.{Permutation, Begins, Free}
 use Rattle.orders.proofs.Placing.{Upto, lined_more, upto_tried, upto_barred, found_here, cut, whole}
 use Rattle.orders.proofs.finding.+extend.Goals as goal
-use Rattle.orders.proofs.finding.+extend.Goals.{then-is-free+else-extend, else-is-free}
+use Rattle.orders.proofs.finding.+extend.Goals.{then-is_free+else-extend, else-is_free}
 
 pub returns-then-rejects : goal.returns-then-rejects
 returns-then-rejects g t c =
@@ -35,7 +35,7 @@ extend-requires g t c κs within =
     let room : c.args.done < length order = omega (arith, c.loop-item.invariant.1) in
     let front : c.args.done - 0 ≡ c.args.done = omega arith in
     let l : Lined b (take c.args.done order) = subst (Lined b) (sym c.loop-item.invariant.0.front) c.requires.lined in
-    let free : Free b (take (c.args.done - 0) order) c.loop-item.item = c.is-free.ensures.0 c.if-is-free.true in
+    let free : Free b (take (c.args.done - 0) order) c.loop-item.item = c.is_free.ensures.0 c.if-is_free.true in
     let more : Lined b (take (c.args.done + 1) (set order c.args.done c.loop-item.item)) =
     lined_more b order c.args.done c.loop-item.item room (omega arith) l (subst (λ (k : ℕ). Free b (take k order) c.loop-item.item) front free) in
     search rules
@@ -55,18 +55,18 @@ loop-item-preserved g t c =
     let less : c.args.done < b.count = omega arith in
     let room : c.args.done < length order = omega (arith, c.loop-item.invariant.1) in
     let again = λ (o : List ℕ). Upto b F c.args.done c.args.order.now o (c.loop-item.item + 1) in
-    elim c.if-is-free.branch [
-      | then-is-free+else-extend w ↦ (
+    elim c.if-is_free.branch [
+      | then-is_free+else-extend w ↦ (
         subst again (sym w.order-is)
             (upto_tried b F c.args.done c.args.order.now order c.loop-item.item less room c.loop-item.invariant.0
             w.extend.new.order w.extend.result w.if-extend.false w.extend.ensures),
-        c.if-is-free.array_long,
+        c.if-is_free.array_long,
       )
-      | else-is-free w ↦
-          let barred : Free b (take (c.args.done - 0) order) c.loop-item.item → ⊥ = not_from_Decides c.is-free.result c.is-free.ensures w.if-is-free.false in (
+      | else-is_free w ↦
+          let barred : Free b (take (c.args.done - 0) order) c.loop-item.item → ⊥ = not_from_Decides c.is_free.result c.is_free.ensures w.if-is_free.false in (
             subst again (sym w.order-is)
                 (upto_barred b F c.args.done c.args.order.now order c.loop-item.item less room c.loop-item.invariant.0
                 (subst (λ (k : ℕ). Free b (take k order) c.loop-item.item → ⊥) front barred)),
-            c.if-is-free.array_long,
+            c.if-is_free.array_long,
           )
     ]

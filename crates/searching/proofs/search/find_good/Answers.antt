@@ -33,4 +33,4 @@ returns c m asked =
         cycle = to_tabled es m asked.lawful kept pushed is-kept is-pushed (picked E q) cycle;
       };
     })
-    c.find-order.result c.find-order.ensures
+    c.find_order.result c.find_order.ensures

@@ -30,14 +30,14 @@ returns-then-whole-count c =
     } in
     record { value = cut; only = λ o p. sectioned_once _ c.args.start c.args.size o _ p cut }
 
-pub overflow-mul-result : goal.overflow-mul-result
-overflow-mul-result c =
+pub overflow_mul-result : goal.overflow_mul-result
+overflow_mul-result c =
     let some : 0 < c.args.size = omega arith in
     let fits = has_room (length c.args.bytes.now - (c.args.start + 1)) c.args.size (get_or c.args.bytes.now c.args.start 0) some (omega arith) in
     omega arith
 
-pub overflow-add-result-2 : goal.overflow-add-result-2
-overflow-add-result-2 c =
+pub overflow_add-result-2 : goal.overflow_add-result-2
+overflow_add-result-2 c =
     let some : 0 < c.args.size = omega arith in
     let fits = has_room (length c.args.bytes.now - (c.args.start + 1)) c.args.size (get_or c.args.bytes.now c.args.start 0) some (omega arith) in
     omega arith

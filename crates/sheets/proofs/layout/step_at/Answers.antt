@@ -5,9 +5,9 @@ use Rattle.sheets.proofs.layout.step_at.Goals as goal
 pub returns-then-place-steps : goal.returns-then-place-steps
 returns-then-place-steps c = λ s h. omega (arith, stands_whole c.args.steps.now c.args.place s h)
 
-pub returns-in-err-rule : goal.returns-in-err-rule
-returns-in-err-rule c =
-    rw c.from-residual.ensures (λ s h. c.in-err-rule.ensures s.rule (sym (stands_reads c.args.steps.now c.args.place s h).by))
+pub returns-in_err-rule : goal.returns-in_err-rule
+returns-in_err-rule c =
+    rw c.from-residual.ensures (λ s h. c.in_err-rule.ensures s.rule (sym (stands_reads c.args.steps.now c.args.place s h).by))
 
 pub returns : goal.returns
 returns c =
@@ -16,7 +16,7 @@ returns c =
       whole = omega arith;
       starts = ap (λ p. get_or c.args.steps.now p 0) (add-zero (c.args.place * 5));
       leads = refl;
-      by = sym c.in-ok-rule.ensures;
+      by = sym c.in_ok-rule.ensures;
       reads = refl;
       reads_second = refl;
     })

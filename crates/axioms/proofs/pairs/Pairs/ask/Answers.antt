@@ -13,8 +13,8 @@ bounds-kept-at g c =
 pub bounds-pushed-at : goal.bounds-pushed-at
 bounds-pushed-at g c = bounds-kept-at g c
 
-pub overflow-add-at : goal.overflow-add-at
-overflow-add-at g c = omega (arith, bounds-kept-at g c)
+pub overflow_add-at : goal.overflow_add-at
+overflow_add-at g c = omega (arith, bounds-kept-at g c)
 
 pub loop-a-init : goal.loop-a-init
 loop-a-init g c = (omega arith, asked_none refl refl)

@@ -5,4 +5,4 @@ use Rattle.axioms.proofs.pairs.Pairs.is_push_order.Goals as goal
 pub returns : goal.returns
 returns c m es asked =
     decides_push_order m es c.args.self.now asked c.flags.result (c.flags.ensures m es asked)
-    c.args.list.now c.lists-exactly.result c.lists-exactly.ensures
+    c.args.list.now c.lists_exactly.result c.lists_exactly.ensures

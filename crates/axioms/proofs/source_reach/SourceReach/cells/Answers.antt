@@ -5,8 +5,8 @@ use Rattle.measures.specs.Walks.{Leads}
 use Rattle.axioms.proofs.Fronts.{square_fits, front_length, front_drawn}
 use Rattle.axioms.proofs.source_reach.SourceReach.cells.Goals as goal
 
-pub slice-bounds-result-end : goal.slice-bounds-result-end
-slice-bounds-result-end c =
+pub slice_bounds-result-end : goal.slice_bounds-result-end
+slice_bounds-result-end c =
     let h : c.args.self.now.side * c.args.self.now.side ≤ 4096 = square_fits c.args.self.now.side c.args.self.now.small in
     search rules
 

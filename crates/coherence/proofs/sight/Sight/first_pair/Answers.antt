@@ -2,7 +2,7 @@ use Rattle.std.proofs.Common.{arith}
 use Rattle.std.proofs.lemmas.Bool.{both_ways}
 use Rattle.coherence.proofs.FirstRule.{pair_more, pair_found, pair_none, second_none}
 use Rattle.coherence.proofs.sight.Sight.first_pair.Goals as goal
-use Rattle.coherence.proofs.sight.Sight.first_pair.Goals.{then-reads-from+in-default, else-reads-from}
+use Rattle.coherence.proofs.sight.Sight.first_pair.Goals.{then-reads_from+in_default, else-reads_from}
 
 pub loop-reader-init : goal.loop-reader-init
 loop-reader-init c m L told u h = absurd (omega arith)
@@ -13,10 +13,10 @@ loop-reader-preserved c m L told =
     let p = c.args.p in
     let q = c.args.q in
     let k = c.loop-reader.reader in
-    elim c.if-reads-from.branch [
-      | then-reads-from+in-default w ↦ pair_more m es L p q k (c.loop-reader.invariant m L told) (second_none m es L p q k (w.in-default.ensures m L told))
-      | else-reads-from w ↦
-          pair_more m es L p q k (c.loop-reader.invariant m L told) (λ v h. both_ways c.reads-from.result w.if-reads-from.false (c.reads-from.ensures.1 h.1.0))
+    elim c.if-reads_from.branch [
+      | then-reads_from+in_default w ↦ pair_more m es L p q k (c.loop-reader.invariant m L told) (second_none m es L p q k (w.in_default.ensures m L told))
+      | else-reads_from w ↦
+          pair_more m es L p q k (c.loop-reader.invariant m L told) (λ v h. both_ways c.reads_from.result w.if-reads_from.false (c.reads_from.ensures.1 h.1.0))
     ]
 
 pub returns-in-Some : goal.returns-in-Some

@@ -2,8 +2,8 @@ use Rattle.std.proofs.Common.{◌≡◌, ◌+◌, ◌*◌, ◌≤◌, length, mu
 use Rattle.coherence.proofs.CoherenceCycles.{test_answer}
 use Rattle.coherence.proofs.sight.Sight.has_coherence_cycle.Goals as goal
 
-pub slice-bounds-table-end : goal.slice-bounds-table-end
-slice-bounds-table-end c =
+pub slice_bounds-table-end : goal.slice_bounds-table-end
+slice_bounds-table-end c =
     let n = length c.args.self.now.events.now + 8 in
     let h : n * n ≤ 4096 = mul-le-mul c.if-side-gt-LARGEST.false c.if-side-gt-LARGEST.false in
     search rules
@@ -11,9 +11,9 @@ slice-bounds-table-end c =
 pub returns : goal.returns
 returns c =
     let n = length c.args.self.now.events.now + 8 in
-    let drawn = c.in-ok-draw-coherence.ensures in
-    let long : length c.draw-coherence.new.cells ≡ n * n = omega (arith, c.draw-coherence.auto.cells, drawn.0.1) in
-    test_answer c.args.self.now c.draw-coherence.new.cells c.has_cycle.new.cells c.has_cycle.result
+    let drawn = c.in_ok-draw_coherence.ensures in
+    let long : length c.draw_coherence.new.cells ≡ n * n = omega (arith, c.draw_coherence.auto.cells, drawn.0.1) in
+    test_answer c.args.self.now c.draw_coherence.new.cells c.has_cycle.new.cells c.has_cycle.result
     (c.if-side-gt-LARGEST.false, c.if-self-side.false)
     (c.if-side-gt-LARGEST.false, long)
     drawn.1

@@ -20,23 +20,23 @@ returns-in-Some c =
     (c.in-Some.ensures m L told) in
     record { names = λ m L told. (answer m L told).names; first = λ m L told. (answer m L told).first }
 
-pub returns-in-Some-first-reader : goal.returns-in-Some-first-reader
-returns-in-Some-first-reader c =
-    let answer : Throughout c.args.self.now (λ es m L. Answer m es L c.args.p c.args.q (Some (record { rule = Corw; reader = c.in-Some-first-reader.reader; second = 255 }))) =
+pub returns-in-Some-first_reader : goal.returns-in-Some-first_reader
+returns-in-Some-first_reader c =
+    let answer : Throughout c.args.self.now (λ es m L. Answer m es L c.args.p c.args.q (Some (record { rule = Corw; reader = c.in-Some-first_reader.reader; second = 255 }))) =
     λ m L told. by_corw m c.args.self.now.events.now L c.args.p c.args.q
     (not_from_Decides c.holds.result (c.holds.ensures m L told) c.if-holds.false)
-    (c.in-default.ensures m L told)
-    c.in-Some-first-reader.reader
-    (c.in-Some-first-reader.ensures m L told) in
+    (c.in_default.ensures m L told)
+    c.in-Some-first_reader.reader
+    (c.in-Some-first_reader.ensures m L told) in
     record { names = λ m L told. (answer m L told).names; first = λ m L told. (answer m L told).first }
 
 pub returns : goal.returns
 returns c =
-    let answer : Throughout c.args.self.now (λ es m L. Answer m es L c.args.p c.args.q c.first-pair.result) =
+    let answer : Throughout c.args.self.now (λ es m L. Answer m es L c.args.p c.args.q c.first_pair.result) =
     λ m L told. by_corr m c.args.self.now.events.now L c.args.p c.args.q
     (not_from_Decides c.holds.result (c.holds.ensures m L told) c.if-holds.false)
-    (c.in-default.ensures m L told)
-    (c.in-default-first-reader.ensures m L told)
-    c.first-pair.result
-    (c.first-pair.ensures m L told) in
+    (c.in_default.ensures m L told)
+    (c.in_default-first_reader.ensures m L told)
+    c.first_pair.result
+    (c.first_pair.ensures m L told) in
     record { names = λ m L told. (answer m L told).names; first = λ m L told. (answer m L told).first }

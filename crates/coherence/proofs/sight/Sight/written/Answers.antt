@@ -1,5 +1,5 @@
 use Rattle.coherence.proofs.Sighting.{no_write}
 use Rattle.coherence.proofs.sight.Sight.written.Goals as goal
 
-pub returns-in-default : goal.returns-in-default
-returns-in-default c = let none = c.in-default.ensures in no_write c.args.self.now.events.now c.args.number (cc)
+pub returns-in_default : goal.returns-in_default
+returns-in_default c = let none = c.in_default.ensures in no_write c.args.self.now.events.now c.args.number (cc)

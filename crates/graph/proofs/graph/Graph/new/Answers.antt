@@ -3,8 +3,8 @@ use Rattle.std.proofs.Common.{[], refl, zero-le}
 use Rattle.graph.proofs.Standing.{tells_new}
 use Rattle.graph.proofs.graph.Graph.new.Goals as goal
 
-pub invariant-of-result : goal.invariant-of-result
-invariant-of-result c = (zero-le, (zero-le, (∣ ([], (tells_new c.args.events.now, tt)) ∣₁, tt)))
+pub invariant_of-result : goal.invariant_of-result
+invariant_of-result c = (zero-le, (zero-le, (∣ ([], (tells_new c.args.events.now, tt)) ∣₁, tt)))
 
 pub returns : goal.returns
 returns c = record { empty = tells_new c.args.events.now; slice = refl; lent = refl }

@@ -21,19 +21,19 @@ returns-then-self-eq0 c =
       lent = refl;
     }
 
-pub overflow-sub-self : goal.overflow-sub-self
-overflow-sub-self c = ∥∥₁_elim c.args.self.now.told le_prop (λ x. (added_back _ _ _ _ 0 x.0 x.1.0 (omega arith) c.in-Added.is).0)
+pub overflow_sub-self : goal.overflow_sub-self
+overflow_sub-self c = ∥∥₁_elim c.args.self.now.told le_prop (λ x. (added_back _ _ _ _ 0 x.0 x.1.0 (omega arith) c.in-Added.is).0)
 
-pub overflow-sub-read : goal.overflow-sub-read
-overflow-sub-read c = ∥∥₁_elim c.args.self.now.told le_prop (λ x. (sourced_back _ _ _ _ 0 x.0 x.1.0 (omega arith) _ _ c.in-Sourced.is).0.0)
+pub overflow_sub-read : goal.overflow_sub-read
+overflow_sub-read c = ∥∥₁_elim c.args.self.now.told le_prop (λ x. (sourced_back _ _ _ _ 0 x.0 x.1.0 (omega arith) _ _ c.in-Sourced.is).0.0)
 
 pub resource-requires : goal.resource-requires
 resource-requires c =
     ∥∥₁_elim c.args.self.now.told le_prop (λ x.
     omega (arith, (sourced_back _ _ _ _ 0 x.0 x.1.0 (omega arith) _ _ c.in-Sourced.is).0.1, c.args.self.now.within))
 
-pub invariant-of-self : goal.invariant-of-self
-invariant-of-self c =
+pub invariant_of-self : goal.invariant_of-self
+invariant_of-self c =
     let es = c.args.self.now.events.now in (
       omega (arith, c.args.self.now.within),
       (
@@ -45,8 +45,8 @@ invariant-of-self c =
       ),
     )
 
-pub invariant-of-self-in-Sourced : goal.invariant-of-self-in-Sourced
-invariant-of-self-in-Sourced c =
+pub invariant_of-self-in-Sourced : goal.invariant_of-self-in-Sourced
+invariant_of-self-in-Sourced c =
     let es = c.args.self.now.events.now in
     let at = c.in-Sourced.read - 8 in (
       omega (arith, c.args.self.now.within, ap length c.resource.ensures, length-set es at (with_source (get_or es at absent) c.in-Sourced.former)),

@@ -13,11 +13,11 @@ returns-in-Some c =
     let s = c.in-Some.pair in
     let p = c.in-Some.ensures.0 in
     let h = c.in-Some.ensures.1 in
-    let r = c.from-summary.result in
-    let by-ra = Decides-at r.ra _ (c.from-summary.ensures.ra ∙ ra_is s (segment es a b) h) (ra_decides es a b p) in
-    let by-svo = Decides-at r.svo _ (c.from-summary.ensures.svo ∙ svo_is s (segment es a b) h) (svo_decides es a b p) in
-    let by-spush = Decides-at r.spush _ (c.from-summary.ensures.spush ∙ spush_is s (segment es a b) h) (spush_decides es a b p) in
-    let by-volint = Decides-at r.volint _ (c.from-summary.ensures.volint ∙ volint_is s (segment es a b) h) (volint_decides es a b p) in
+    let r = c.from_summary.result in
+    let by-ra = Decides-at r.ra _ (c.from_summary.ensures.ra ∙ ra_is s (segment es a b) h) (ra_decides es a b p) in
+    let by-svo = Decides-at r.svo _ (c.from_summary.ensures.svo ∙ svo_is s (segment es a b) h) (svo_decides es a b p) in
+    let by-spush = Decides-at r.spush _ (c.from_summary.ensures.spush ∙ spush_is s (segment es a b) h) (spush_decides es a b p) in
+    let by-volint = Decides-at r.volint _ (c.from_summary.ensures.volint ∙ volint_is s (segment es a b) h) (volint_decides es a b p) in
     record {
       ra = by-ra;
       svo = by-svo;

@@ -5,7 +5,7 @@ use Rattle.measures.specs.Walks.{Yes}
 use Rattle.axioms.proofs.Entries.{none_no}
 use Rattle.orders.specs.Orders.{Among}
 use Rattle.searching.proofs.sieve.CycleSieve.has_open_push.Goals as goal
-use Rattle.searching.proofs.sieve.CycleSieve.has_open_push.Goals.{then-row-side+then-not-is-among+else-self-row-ne0, then-row-side+else-not-is-among, else-row-side}
+use Rattle.searching.proofs.sieve.CycleSieve.has_open_push.Goals.{then-row-side+then-not-is_among+else-self-row-ne0, then-row-side+else-not-is_among, else-row-side}
 
 pub bounds-self-row : goal.bounds-self-row
 bounds-self-row c =
@@ -20,7 +20,7 @@ loop-item-preserved c =
     let E = c.args.self.now.pushing.now in
     below_more (λ x. (Among c.args.placed.now x → ⊥) → Yes n xs (get_or E x 0) c.args.column → ⊥) c.loop-item.item c.loop-item.invariant
     (λ is_open y. elim c.if-row-side.branch [
-      | then-row-side+then-not-is-among+else-self-row-ne0 w ↦ both_ways _ (none_no _ w.if-self-row-ne0.false) y.is_yes
-      | then-row-side+else-not-is-among w ↦ is_open (w.is-among.ensures.0 w.if-not-is-among.false)
+      | then-row-side+then-not-is_among+else-self-row-ne0 w ↦ both_ways _ (none_no _ w.if-self-row-ne0.false) y.is_yes
+      | then-row-side+else-not-is_among w ↦ is_open (w.is_among.ensures.0 w.if-not-is_among.false)
       | else-row-side w ↦ omega (arith, w.if-row-side.false, y.row)
     ])

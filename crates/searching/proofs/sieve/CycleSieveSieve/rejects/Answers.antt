@@ -11,7 +11,7 @@ returns-then-placed-count-2 c =
     let front : length placed - 0 ≡ length placed = omega arith in
     let told : Decides c.has_cycle.result (Cyclic s.events.now s.kept.now s.pushed.now (take (length placed - 0) list)) = c.has_cycle.ensures in
     let r = whole_rejecting s.events.now s.kept.now s.pushed.now s.pushing.now placed list c.args.count c.has_cycle.result
-    c.if-count-gt-MOST-ITEMS.false c.if-self-count.false c.in-Some.ensures c.if-placed-count-2.true
+    c.if-count-gt-MOST_ITEMS.false c.if-self-count.false c.in-Some.ensures c.if-placed-count-2.true
     (subst (λ (k : ℕ). Decides c.has_cycle.result (Cyclic s.events.now s.kept.now s.pushed.now (take k list))) front told) in
     record { cut = r.cut; whole = r.whole }
 
@@ -21,8 +21,8 @@ returns c =
     let placed = c.args.placed.now in
     let list = c.in-Some.list in
     let front : length placed + 1 - 0 ≡ length placed + 1 = omega arith in
-    let told : Decides c.has-cycle-so-far.result (CyclicSoFar s.events.now s.kept.now s.pushed.now s.pushing.now placed (take (length placed + 1 - 0) list)) = c.has-cycle-so-far.ensures in
-    let r = open_rejecting s.events.now s.kept.now s.pushed.now s.pushing.now placed list c.args.count c.has-cycle-so-far.result
-    c.if-count-gt-MOST-ITEMS.false c.if-self-count.false c.in-Some.ensures (omega arith)
-    (subst (λ (k : ℕ). Decides c.has-cycle-so-far.result (CyclicSoFar s.events.now s.kept.now s.pushed.now s.pushing.now placed (take k list))) front told) in
+    let told : Decides c.has_cycle_so_far.result (CyclicSoFar s.events.now s.kept.now s.pushed.now s.pushing.now placed (take (length placed + 1 - 0) list)) = c.has_cycle_so_far.ensures in
+    let r = open_rejecting s.events.now s.kept.now s.pushed.now s.pushing.now placed list c.args.count c.has_cycle_so_far.result
+    c.if-count-gt-MOST_ITEMS.false c.if-self-count.false c.in-Some.ensures (omega arith)
+    (subst (λ (k : ℕ). Decides c.has_cycle_so_far.result (CyclicSoFar s.events.now s.kept.now s.pushed.now s.pushing.now placed (take k list))) front told) in
     record { cut = r.cut; whole = r.whole }
