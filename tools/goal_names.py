@@ -14,7 +14,7 @@ SOURCE = re.compile(r"[A-Za-z][A-Za-z0-9]*(?:_[A-Za-z0-9]+)+")
 KIT = [
     "overflow_add", "overflow_sub", "overflow_mul", "overflow_cast", "overflow_step", "overflow_shl", "overflow_shr",
     "slice_bounds", "offset_bounds", "nonzero_div", "nonzero_rem", "in_ok", "in_err", "in_default", "invariant_of",
-    "type_inv", "unwrap_or", "split_at", "as_slice", "split_whitespace", "split_once",
+    "type_inv", "unwrap_or", "split_at", "as_slice", "split_whitespace", "split_once", "from_residual",
 ]
 
 

@@ -6,7 +6,7 @@ use Rattle.marking.proofs.mark.Goals as goal
 
 pub returns-in_err-layout : goal.returns-in_err-layout
 returns-in_err-layout g c =
-    let p = err_from_is_err_and c.from-residual.result c.from-residual.ensures.1 in
+    let p = err_from_is_err_and c.from_residual.result c.from_residual.ensures.1 in
     let m = g.P.Profile.meaning c.args.profile.now in
     let refused = c.in_err-layout.ensures in
     let clauses = subst (λ es. Marked m es c.args.sheet.now (Err c.in_err-layout.field-0.0)) c.events-events.ensures.value

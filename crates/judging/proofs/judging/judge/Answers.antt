@@ -6,7 +6,7 @@ use Rattle.judging.proofs.judging.judge.Goals as goal
 
 pub returns-in_err-verdict : goal.returns-in_err-verdict
 returns-in_err-verdict g c =
-    let p = err_from_is_err_and c.from-residual.result c.from-residual.ensures.1 in
+    let p = err_from_is_err_and c.from_residual.result c.from_residual.ensures.1 in
     let refuses = subst (λ xs. RefusesList (g.P.Profile.meaning c.args.profile.now) xs c.args.list.now c.in_err-verdict.field-0.0) c.events.ensures.value c.in_err-verdict.ensures in
     rw (p.1, p.2) (by_list c.if-buffer-lt-LEAST_BUFFER.false refuses, refl)
 

@@ -23,7 +23,7 @@ check_order-requires c = record {
 
 pub returns-in_err-check_order : goal.returns-in_err-check_order
 returns-in_err-check_order c =
-    let p = err_from_is_err_and c.from-residual.result c.from-residual.ensures.1 in
+    let p = err_from_is_err_and c.from_residual.result c.from_residual.ensures.1 in
     rw (p.1, p.2)
     (λ m bs asked t.
     let parts = layout_parts _ bs _ t in

@@ -15,7 +15,7 @@ loop-place-preserved c = λ m L told.
 
 pub returns-in_err-step : goal.returns-in_err-step
 returns-in_err-step c =
-    rw c.from-residual.ensures
+    rw c.from_residual.ensures
     (record {
       low = tt;
       told = λ m L told ts e.

@@ -7,7 +7,7 @@ returns-then-place-steps c = λ s h. omega (arith, stands_whole c.args.steps.now
 
 pub returns-in_err-rule : goal.returns-in_err-rule
 returns-in_err-rule c =
-    rw c.from-residual.ensures (λ s h. c.in_err-rule.ensures s.rule (sym (stands_reads c.args.steps.now c.args.place s h).by))
+    rw c.from_residual.ensures (λ s h. c.in_err-rule.ensures s.rule (sym (stands_reads c.args.steps.now c.args.place s h).by))
 
 pub returns : goal.returns
 returns c =

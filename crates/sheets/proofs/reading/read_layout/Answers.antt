@@ -8,20 +8,20 @@ use Rattle.sheets.proofs.reading.read_layout.Goals as goal
 
 pub returns-in_err-verdict : goal.returns-in_err-verdict
 returns-in_err-verdict c =
-    let p = err_from_is_err_and c.from-residual.result c.from-residual.ensures.1 in
+    let p = err_from_is_err_and c.from_residual.result c.from_residual.ensures.1 in
     let laid = refused_verdict c.args.present c.args.bytes.now _ c.in_err-verdict.ensures in
     rw (p.1, p.2) (record { outcome = laid; only = λ o p. one_answer _ _ o _ p laid; told = not_well_laid _ _ _ laid })
 
 pub returns-in_err-middle : goal.returns-in_err-middle
 returns-in_err-middle c =
-    let p = err_from_is_err_and c.from-residual-in_err-middle.result c.from-residual-in_err-middle.ensures.1 in
+    let p = err_from_is_err_and c.from_residual-in_err-middle.result c.from_residual-in_err-middle.ensures.1 in
     let verdict = c.in_ok-verdict.ensures in
     let laid = refused_first c.args.present c.args.bytes.now c.in_ok-verdict.verdict _ verdict.0 verdict.1 c.in_err-middle.ensures in
     rw (p.1, p.2) (record { outcome = laid; only = λ o p. one_answer _ _ o _ p laid; told = not_well_laid _ _ _ laid })
 
 pub returns-in_err-count : goal.returns-in_err-count
 returns-in_err-count c =
-    let p = err_from_is_err_and c.from-residual-in_err-count.result c.from-residual-in_err-count.ensures.1 in
+    let p = err_from_is_err_and c.from_residual-in_err-count.result c.from_residual-in_err-count.ensures.1 in
     let verdict = c.in_ok-verdict.ensures in
     let laid = refused_second c.args.present c.args.bytes.now c.in_ok-verdict.verdict c.in_ok-middle.field-0 _
     verdict.0 verdict.1 c.in_ok-middle.ensures c.in_err-count.ensures in

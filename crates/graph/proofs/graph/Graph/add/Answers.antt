@@ -12,10 +12,10 @@ use Rattle.graph.proofs.graph.Graph.add.Goals as goal
 
 pub returns-in_err-kind : goal.returns-in_err-kind
 returns-in_err-kind c =
-    let p = err_from_is_err_and c.from-residual.result c.from-residual.ensures.1 in
+    let p = err_from_is_err_and c.from_residual.result c.from_residual.ensures.1 in
     let is = p.1 ∙ ap Err p.2 in
     record {
-      told = λ hs h. add_refused _ _ _ _ hs h _ _ _ _ c.room.result c.room.ensures c.in_err-kind.field-0.0 c.in_err-kind.ensures.value c.from-residual.result is;
+      told = λ hs h. add_refused _ _ _ _ hs h _ _ _ _ c.room.result c.room.ensures c.in_err-kind.field-0.0 c.in_err-kind.ensures.value c.from_residual.result is;
       slice = rw is refl;
       same = λ _. refl;
       len = refl;

@@ -12,10 +12,10 @@ use Rattle.graph.proofs.graph.Graph.source.Goals as goal
 
 pub returns-in_err-former : goal.returns-in_err-former
 returns-in_err-former c =
-    let p = err_from_is_err_and c.from-residual.result c.from-residual.ensures.1 in
+    let p = err_from_is_err_and c.from_residual.result c.from_residual.ensures.1 in
     let is = p.1 ∙ ap Err p.2 in
     record {
-      told = λ hs h. source_refused _ _ _ _ hs h (room_of c.args.self.now.events.now) _ _ _ c.events.ensures.value c.in_err-former.field-0.0 c.in_err-former.ensures.value c.from-residual.result is;
+      told = λ hs h. source_refused _ _ _ _ hs h (room_of c.args.self.now.events.now) _ _ _ c.events.ensures.value c.in_err-former.field-0.0 c.in_err-former.ensures.value c.from_residual.result is;
       slice = rw is refl;
       same = λ _. refl;
       len = refl;
