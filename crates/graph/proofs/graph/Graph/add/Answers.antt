@@ -12,10 +12,10 @@ use Rattle.graph.proofs.graph.Graph.add.Goals as goal
 
 pub returns-in_err-kind : goal.returns-in_err-kind
 returns-in_err-kind c =
-    let p = err_from_is_err_and c.from-residual.result c.from-residual.ensures.1 in
+    let p = err_from_is_err_and c.from_residual.result c.from_residual.ensures.1 in
     let is = p.1 ∙ ap Err p.2 in
     record {
-      told = λ hs h. add_refused _ _ _ _ hs h _ _ _ _ c.room.result c.room.ensures c.in_err-kind.field-0.0 c.in_err-kind.ensures.value c.from-residual.result is;
+      told = λ hs h. add_refused _ _ _ _ hs h _ _ _ _ c.room.result c.room.ensures c.in_err-kind.field-0.0 c.in_err-kind.ensures.value c.from_residual.result is;
       slice = rw is refl;
       same = λ _. refl;
       len = refl;
@@ -25,18 +25,15 @@ returns-in_err-kind c =
 pub invariant_of-self : goal.invariant_of-self
 invariant_of-self c =
     let es = c.args.self.now.events.now in
-    let ok = c.in_ok-kind.ensures in (
-      omega (arith, length-set es c.args.self.now.count c.fresh.result, ok.fits.0, c.room.ensures),
-      (
-        omega (arith, ok.fits.1),
-        (
+    let ok = c.in_ok-kind.ensures in
+    record {
+      within = omega (arith, length-set es c.args.self.now.count c.fresh.result, ok.fits.0, c.room.ensures);
+      few = omega (arith, ok.fits.1);
+      told =
           still_told es _ _ _ _ _ _ _ (room_of es) (Add c.args.thread c.args.code c.args.location c.args.value)
-              (λ hs h. (add_done _ _ _ _ hs h _ _ _ _ c.room.result c.room.ensures c.in_ok-kind.kind ok.value ok.fits.0 ok.fits.1 c.fresh.result c.fresh.ensures).1)
-              c.args.self.now.told,
-          tt,
-        ),
-      ),
-    )
+          (λ hs h. (add_done _ _ _ _ hs h _ _ _ _ c.room.result c.room.ensures c.in_ok-kind.kind ok.value ok.fits.0 ok.fits.1 c.fresh.result c.fresh.ensures).1)
+          c.args.self.now.told;
+    }
 
 pub returns : goal.returns
 returns c =
