@@ -1,34 +1,58 @@
 -- `==` on slices of events decides whether they are equal.
-use Rattle.std.proofs.Common.{◌≡◌, Bool, true, false, List, [], ◌∷◌, Decides, inl, inr, rules}
-use Rattle.std.specs.Cmp.Lexicographic.{Same, Apart, Matches, pointwise}
+use Rattle.std.proofs.Common.{◌≡◌, ℕ, Bool, List, Decides, ◌==◌, Option, Some, None, refl, ap, rules}
+use Rattle.std.specs.Cmp.Lexicographic.{pointwise}
+use Rattle.std.specs.Option.{option_eq}
+use Rattle.std.proofs.lemmas.Bool.Decides.{Decides-like, Decides-and, Decides-eqb}
 use Rattle.std.proofs.lemmas.Slice.Eq.{slice_eq-Decides}
+use Rattle.graph.specs.declared.code.Code.{Code}
+use Rattle.graph.specs.declared.code.Code.TheVariants.{Read, Write, Fence}
+use Rattle.graph.specs.declared.code.ReadMode.{ReadMode}
+use Rattle.graph.specs.declared.code.WriteMode.{WriteMode}
+use Rattle.graph.specs.declared.code.FenceMode.{FenceMode}
 use Rattle.graph.specs.declared.event.Event.{Event}
+use Rattle.graph.specs.contracts.code.ReadModePartialEq.TheImpl as read_modes
+use Rattle.graph.specs.contracts.code.WriteModePartialEq.TheImpl as write_modes
+use Rattle.graph.specs.contracts.code.FenceModePartialEq.TheImpl as fence_modes
+use Rattle.graph.specs.contracts.code.CodePartialEq.TheImpl as code_tests
 use Rattle.graph.specs.contracts.event.EventPartialEq.TheImpl.{ghosts}
-use Rattle.std.proofs.lemmas.Bool.Decides.{Decides-eqb}
 
-module _ {K : Type 0} (E : K → K → Bool → Type 0) (each : (x y : K) (t : Bool) → E x y t → Decides t (x ≡ y)) where
-  abbrev D : K → K → Bool → Type 0
-  D x y t = Decides t (x ≡ y)
+read_mode_decides : (x y : ReadMode) → Decides (read_modes.ghosts.eq x y) (x ≡ y)
+read_mode_decides x y = search rules
 
-  same_like : (xs ys : List K) → Same E xs ys → Same D xs ys
-  same_like [] [] h = tt
-  same_like [] (y ∷ ys) h = h
-  same_like (x ∷ xs) [] h = h
-  same_like (x ∷ xs) (y ∷ ys) h = (each x y true h.0, same_like xs ys h.1)
+write_mode_decides : (x y : WriteMode) → Decides (write_modes.ghosts.eq x y) (x ≡ y)
+write_mode_decides x y = search rules
 
-  apart_like : (xs ys : List K) → Apart E xs ys → Apart D xs ys
-  apart_like [] ys h = h
-  apart_like (x ∷ xs) [] h = h
-  apart_like (x ∷ xs) (y ∷ ys) (inl h) = inl (each x y false h)
-  apart_like (x ∷ xs) (y ∷ ys) (inr h) = inr (apart_like xs ys h)
+fence_mode_decides : (x y : FenceMode) → Decides (fence_modes.ghosts.eq x y) (x ≡ y)
+fence_mode_decides x y = search rules
 
-  matches_by : (xs ys : List K) (r : Bool) → Matches E xs ys r → Decides r (xs ≡ ys)
-  matches_by xs ys true h = slice_eq-Decides Decides-eqb xs ys true (h.0, same_like xs ys h.1)
-  matches_by xs ys false (inl n) = slice_eq-Decides Decides-eqb xs ys false (inl n)
-  matches_by xs ys false (inr h) = slice_eq-Decides Decides-eqb xs ys false (inr (apart_like xs ys h))
+code_decides : (x y : Code) → Decides (code_tests.ghosts.eq x y) (x ≡ y)
+code_decides (Read x) (Read y) = Decides-like _ (ap Read) (λ e. cc) (read_mode_decides x y)
+code_decides (Read x) (Write y) = (λ e. cc, λ e. cc)
+code_decides (Read x) (Fence y) = (λ e. cc, λ e. cc)
+code_decides (Write x) (Read y) = (λ e. cc, λ e. cc)
+code_decides (Write x) (Write y) = Decides-like _ (ap Write) (λ e. cc) (write_mode_decides x y)
+code_decides (Write x) (Fence y) = (λ e. cc, λ e. cc)
+code_decides (Fence x) (Read y) = (λ e. cc, λ e. cc)
+code_decides (Fence x) (Write y) = (λ e. cc, λ e. cc)
+code_decides (Fence x) (Fence y) = Decides-like _ (ap Fence) (λ e. cc) (fence_mode_decides x y)
 
-equals_decides : (x y : Event) (t : Bool) → (t ≡ ghosts.eq x y) → Decides t (x ≡ y)
-equals_decides x y t h = search rules
+source_decides : (x y : Option ℕ) → Decides (option_eq ◌==◌ x y) (x ≡ y)
+source_decides (Some x) (Some y) = Decides-like _ (ap Some) (λ e. cc) (Decides-eqb x y)
+source_decides (Some x) None = (λ e. cc, λ e. cc)
+source_decides None (Some y) = (λ e. cc, λ e. cc)
+source_decides None None = (λ e. refl, λ e. refl)
+
+same_fields : (x y : Event) → x.thread ≡ y.thread → x.code ≡ y.code → x.location ≡ y.location → x.value ≡ y.value → x.source ≡ y.source → x ≡ y
+same_fields x y p q r s t = λ i. record { thread = p i; code = q i; location = r i; value = s i; source = t i }
+
+pub equals_decides : (x y : Event) → Decides (ghosts.eq x y) (x ≡ y)
+equals_decides x y =
+    Decides-like _
+    (λ h. same_fields x y h.0 h.1.0 h.1.1.0 h.1.1.1.0 h.1.1.1.1)
+    (λ e. (ap (λ v. v.thread) e, (ap (λ v. v.code) e, (ap (λ v. v.location) e, (ap (λ v. v.value) e, ap (λ v. v.source) e)))))
+    (Decides-and _ _ (Decides-eqb x.thread y.thread)
+    (Decides-and _ _ (code_decides x.code y.code)
+    (Decides-and _ _ (Decides-eqb x.location y.location) (Decides-and _ _ (Decides-eqb x.value y.value) (source_decides x.source y.source)))))
 
 pub events_decide : (xs ys : List Event) (r : Bool) → (r ≡ pointwise ghosts.eq xs ys) → Decides r (xs ≡ ys)
-events_decide = matches_by (λ x' y' r'. r' ≡ ghosts.eq x' y') equals_decides
+events_decide = slice_eq-Decides equals_decides

@@ -25,18 +25,15 @@ returns-in_err-kind c =
 pub invariant_of-self : goal.invariant_of-self
 invariant_of-self c =
     let es = c.args.self.now.events.now in
-    let ok = c.in_ok-kind.ensures in (
-      omega (arith, length-set es c.args.self.now.count c.fresh.result, ok.fits.0, c.room.ensures),
-      (
-        omega (arith, ok.fits.1),
-        (
+    let ok = c.in_ok-kind.ensures in
+    record {
+      within = omega (arith, length-set es c.args.self.now.count c.fresh.result, ok.fits.0, c.room.ensures);
+      few = omega (arith, ok.fits.1);
+      told =
           still_told es _ _ _ _ _ _ _ (room_of es) (Add c.args.thread c.args.code c.args.location c.args.value)
-              (λ hs h. (add_done _ _ _ _ hs h _ _ _ _ c.room.result c.room.ensures c.in_ok-kind.kind ok.value ok.fits.0 ok.fits.1 c.fresh.result c.fresh.ensures).1)
-              c.args.self.now.told,
-          tt,
-        ),
-      ),
-    )
+          (λ hs h. (add_done _ _ _ _ hs h _ _ _ _ c.room.result c.room.ensures c.in_ok-kind.kind ok.value ok.fits.0 ok.fits.1 c.fresh.result c.fresh.ensures).1)
+          c.args.self.now.told;
+    }
 
 pub returns : goal.returns
 returns c =

@@ -4,7 +4,7 @@ use Rattle.graph.proofs.Standing.{tells_new}
 use Rattle.graph.proofs.graph.Graph.new.Goals as goal
 
 pub invariant_of-result : goal.invariant_of-result
-invariant_of-result c = (zero-le, (zero-le, (∣ ([], (tells_new c.args.events.now, tt)) ∣₁, tt)))
+invariant_of-result c = record { within = zero-le; few = zero-le; told = ∣ ([], (tells_new c.args.events.now, tt)) ∣₁ }
 
 pub returns : goal.returns
 returns c = record { empty = tells_new c.args.events.now; slice = refl; lent = refl }

@@ -26,18 +26,14 @@ pub invariant_of-self : goal.invariant_of-self
 invariant_of-self c =
     let es = c.args.self.now.events.now in
     let at = c.args.read - 8 in
-    let ok = c.in_ok-former.ensures in (
-      omega (arith, c.args.self.now.within, ap length c.resource.ensures, length-set es at (with_source (get_or es at absent) (Some c.args.write))),
-      (
-        omega (arith, ok.fits.2),
-        (
-          still_told es _ _ _ _ _ _ _ (room_of es) (Source c.args.read c.args.write)
-              (λ hs h. (source_done _ _ _ _ hs h (room_of es) _ _ c.events.result.now c.events.ensures.value c.in_ok-former.former ok.value ok.fits.0 ok.fits.1 ok.fits.2 c.resource.new.events c.resource.ensures).1)
-              c.args.self.now.told,
-          tt,
-        ),
-      ),
-    )
+    let ok = c.in_ok-former.ensures in
+    record {
+      within = omega (arith, c.args.self.now.within, ap length c.resource.ensures, length-set es at (with_source (get_or es at absent) (Some c.args.write)));
+      few = omega (arith, ok.fits.2);
+      told = still_told es _ _ _ _ _ _ _ (room_of es) (Source c.args.read c.args.write)
+          (λ hs h. (source_done _ _ _ _ hs h (room_of es) _ _ c.events.result.now c.events.ensures.value c.in_ok-former.former ok.value ok.fits.0 ok.fits.1 ok.fits.2 c.resource.new.events c.resource.ensures).1)
+          c.args.self.now.told;
+    }
 
 pub returns : goal.returns
 returns c =

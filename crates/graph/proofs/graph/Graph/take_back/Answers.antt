@@ -34,32 +34,24 @@ resource-requires c =
 
 pub invariant_of-self : goal.invariant_of-self
 invariant_of-self c =
-    let es = c.args.self.now.events.now in (
-      omega (arith, c.args.self.now.within),
-      (
-        omega (arith, c.args.self.now.few),
-        (
-          still_told es es _ _ _ _ _ _ (room_of es) TakeBack (λ hs h. (added_back _ _ _ _ (room_of es) hs h (omega arith) c.in-Added.is).1.tells) c.args.self.now.told,
-          tt,
-        ),
-      ),
-    )
+    let es = c.args.self.now.events.now in
+    record {
+      within = omega (arith, c.args.self.now.within);
+      few = omega (arith, c.args.self.now.few);
+      told = still_told es es _ _ _ _ _ _ (room_of es) TakeBack (λ hs h. (added_back _ _ _ _ (room_of es) hs h (omega arith) c.in-Added.is).1.tells) c.args.self.now.told;
+    }
 
 pub invariant_of-self-in-Sourced : goal.invariant_of-self-in-Sourced
 invariant_of-self-in-Sourced c =
     let es = c.args.self.now.events.now in
-    let at = c.in-Sourced.read - 8 in (
-      omega (arith, c.args.self.now.within, ap length c.resource.ensures, length-set es at (with_source (get_or es at absent) c.in-Sourced.former)),
-      (
-        omega (arith, c.args.self.now.few),
-        (
-          still_told es _ _ _ _ _ _ _ (room_of es) TakeBack
-              (λ hs h. (sourced_then _ _ _ _ (room_of es) hs h (omega arith) _ _ c.in-Sourced.is c.resource.new.events c.resource.ensures).tells)
-              c.args.self.now.told,
-          tt,
-        ),
-      ),
-    )
+    let at = c.in-Sourced.read - 8 in
+    record {
+      within = omega (arith, c.args.self.now.within, ap length c.resource.ensures, length-set es at (with_source (get_or es at absent) c.in-Sourced.former));
+      few = omega (arith, c.args.self.now.few);
+      told = still_told es _ _ _ _ _ _ _ (room_of es) TakeBack
+          (λ hs h. (sourced_then _ _ _ _ (room_of es) hs h (omega arith) _ _ c.in-Sourced.is c.resource.new.events c.resource.ensures).tells)
+          c.args.self.now.told;
+    }
 
 pub returns-in-Added : goal.returns-in-Added
 returns-in-Added c =
