@@ -17,7 +17,7 @@ pub trait Relation {
 ///
 /// Where `side` is above 64, or `cells` has not `side` × `side` values, nothing is written.
 pub fn draw<R: Relation>(relation: &R, cells: &mut [u8], side: usize) -> Result<(), Refusal>
-    ensures { Drawing (related relation.now) side cells.old cells.new result }
+    ensures { Drawing (R.related relation.now) side cells.old cells.new result }
 {
     if side > LARGEST {
         return Err(Refusal::NotSquare);

@@ -38,7 +38,7 @@ pub(crate) fn find<P: Profile>(
 ) -> Result<Finding, Refused>
     requires few { length events.now ≤ 56 }
     requires proper { Proper events.now }
-    ensures { MatchResult result (λ f. Found (meaning profile.now) events.now list.now f steps.new) (RefusesList (meaning profile.now) events.now list.now) }
+    ensures { MatchResult result (λ f. Found (P.meaning profile.now) events.now list.now f steps.new) (RefusesList (P.meaning profile.now) events.now list.now) }
 {
     let Ok(pairs) = Pairs::ask(profile, events) else {
         unreachable()

@@ -24,7 +24,7 @@ pub fn judge<P: Profile>(
     list: &[u8],
     buffer: &mut [u8],
 ) -> Result<usize, Refused>
-    ensures { Judges (meaning profile.now) (added_events graph.now) list.now buffer.old buffer.new result }
+    ensures { Judges (P.meaning profile.now) (added_events graph.now) list.now buffer.old buffer.new result }
 {
     if buffer.len() < LEAST_BUFFER {
         return Err(Refused::plain(Refusal::BufferTooShort));

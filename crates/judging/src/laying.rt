@@ -72,8 +72,8 @@ impl Namer for CoherenceNamer<'_, '_> {
 /// Lays a closed chain of events out as steps, at the front of `steps`.
 pub(crate) fn lay<N: Namer>(namer: &N, cycle: &[u8], steps: &mut [Step; 64])
     requires few { length cycle.now ≤ 64 }
-    requires closed { Closed (related namer.now) cycle.now }
-    ensures { Laid (named namer.now) cycle.now steps.new }
+    requires closed { Closed (N.related namer.now) cycle.now }
+    ensures { Laid (N.named namer.now) cycle.now steps.new }
 {
     let count = cycle.len();
     for i in 0..count {

@@ -27,7 +27,7 @@ pub fn examine<'a, P: Profile>(
     order: &mut [u8],
     answers: &mut Answers,
 ) -> Graph<'a>
-    ensures promise { Promise (meaning profile.now) events.old entries.old entries.new list.now brought.now (record { old = sheet.old; new = sheet.new }) (record { old = order.old; new = order.new }) answers.new result }
+    ensures promise { Promise (P.meaning profile.now) events.old entries.old entries.new list.now brought.now (record { old = sheet.old; new = sheet.new }) (record { old = order.old; new = order.new }) answers.new result }
     ensures lent { result.events.ghost_name ≡ events.entry.ghost_name }
 {
     let mut graph = Graph::new(events);

@@ -29,9 +29,9 @@ mod truth;
 /// - `StepFails` (21), section 2 and the number of the step, at the first step that does not hold by its rule;
 /// - under a clear verdict, `WrongVerdict` (22) where there is a coherence cycle.
 pub fn mark<P: Profile>(graph: &Graph<'_>, profile: &P, sheet: &[u8]) -> Result<(), Refused>
-    ensures outcome { Marks (meaning profile.now) (added_events graph.now) sheet.now result }
-    ensures only { (other : Result (Unit {0}) Refused) → Marks (meaning profile.now) (added_events graph.now) sheet.now other → other ≡ result }
-    ensures told { MatchResult result (λ _. Passes (meaning profile.now) (added_events graph.now) sheet.now) (λ _. Passes (meaning profile.now) (added_events graph.now) sheet.now → ⊥) }
+    ensures outcome { Marks (P.meaning profile.now) (added_events graph.now) sheet.now result }
+    ensures only { (other : Result (Unit {0}) Refused) → Marks (P.meaning profile.now) (added_events graph.now) sheet.now other → other ≡ result }
+    ensures told { MatchResult result (λ _. Passes (P.meaning profile.now) (added_events graph.now) sheet.now) (λ _. Passes (P.meaning profile.now) (added_events graph.now) sheet.now → ⊥) }
 {
     let events = graph.events();
     let present = events.len() as u8 + INITIAL;

@@ -12,7 +12,7 @@ use crate::sieve::Sieve;
 /// The order stands at the front of the eight numbers, and 0 behind it. Where there is none, every order that respects the
 /// precedence fails.
 pub fn find_order<S: Sieve>(precedence: &Precedence, sieve: &S) -> Option<[u8; 8]>
-    ensures { Found precedence.now (fails sieve.now) result }
+    ensures { Found precedence.now (S.fails sieve.now) result }
 {
     let mut order = [0; 8];
     if extend(precedence, sieve, &mut order, 0) {
@@ -27,7 +27,7 @@ pub fn find_order<S: Sieve>(precedence: &Precedence, sieve: &S) -> Option<[u8; 8
 fn extend<S: Sieve>(precedence: &Precedence, sieve: &S, order: &mut [u8; 8], done: u8) -> bool
     requires within { done ≤ precedence.now.count }
     requires lined { Lined precedence.now (take done order.old) }
-    ensures { Extended precedence.now (fails sieve.now) done order.old order.new result }
+    ensures { Extended precedence.now (S.fails sieve.now) done order.old order.new result }
 {
     let count = precedence.count();
     if sieve.rejects(&order[0..done as usize], count) {

@@ -29,7 +29,7 @@ pub trait Profile {
 /// The theorem that the answers of every profile last: no other source, no later event and no other
 /// thread changes one. It is for callers' proofs; the number that comes back says nothing.
 pub fn answers_last<P: Profile>(profile: &P) -> u8
-    ensures { Lasting (meaning profile.now) }
+    ensures { Lasting (P.meaning profile.now) }
 {
     let _ = profile;
     0

@@ -37,8 +37,8 @@ pub fn search<P: Profile>(
     profile: &P,
     buffer: &mut [u8],
 ) -> Result<Answer, Refused>
-    ensures answered { Searches (meaning profile.now) (added_events graph.now) buffer.old buffer.new result }
-    ensures only { (new : List ℕ) (other : Result Answer Refused) → Searches (meaning profile.now) (added_events graph.now) buffer.old new other → (other ≡ result) × (new ≡ buffer.new) }
+    ensures answered { Searches (P.meaning profile.now) (added_events graph.now) buffer.old buffer.new result }
+    ensures only { (new : List ℕ) (other : Result Answer Refused) → Searches (P.meaning profile.now) (added_events graph.now) buffer.old new other → (other ≡ result) × (new ≡ buffer.new) }
 {
     if buffer.len() < LEAST_BUFFER {
         return Err(Refused::plain(Refusal::BufferTooShort));

@@ -18,7 +18,7 @@ impl Pairs {
     ///
     /// More than 56 added events are refused.
     pub fn ask<P: Profile>(profile: &P, events: &[Event]) -> Result<Pairs, Refusal>
-        ensures { MatchResult result (Asked (meaning profile.now) events.now) (TooMany events.now) }
+        ensures { MatchResult result (Asked (P.meaning profile.now) events.now) (TooMany events.now) }
     {
         let side = events.len() + INITIAL as usize;
         if side > LARGEST {
@@ -73,8 +73,8 @@ struct Pair {
 impl Pair {
     // Only a pair in program order can be kept, and only a kept one can be pushed: the profile is asked no more.
     fn ask<P: Profile>(profile: &P, events: &[Event], a: u8, b: u8) -> Pair
-        ensures kept { Decides (yes result.kept) (Kept (meaning profile.now) events.now a b) }
-        ensures pushed { Decides (yes result.pushed) (Pushed (meaning profile.now) events.now a b) }
+        ensures kept { Decides (yes result.kept) (Kept (P.meaning profile.now) events.now a b) }
+        ensures pushed { Decides (yes result.pushed) (Pushed (P.meaning profile.now) events.now a b) }
     {
         if !precedes(events, a, b) {
             return Pair { kept: 0, pushed: 0 };
