@@ -7,7 +7,7 @@ use Rattle.axioms.proofs.pairs.Pairs.pushes.Goals as goal
 pub bounds-cells-row : goal.bounds-cells-row
 bounds-cells-row c =
     let side = c.side-side.ensures.value in
-    omega (arith, place_within c.args.event c.loop-column.column c.side-side.result c.if-row-side.false c.loop-column-test.true, c.pushed_cells.ensures.size, ap₂ ◌*◌ side side)
+    omega (arith, place_within c.args.event c.loop-column.column c.side-side.result c.if-row-side.false c.loop-column-test.true, c.pushed-cells.ensures.size, ap₂ ◌*◌ side side)
 
 pub returns-then-row-side : goal.returns-then-row-side
 returns-then-row-side c m es asked =
@@ -15,10 +15,10 @@ returns-then-row-side c m es asked =
 
 pub returns-then-cells-row-ne0 : goal.returns-then-cells-row-ne0
 returns-then-cells-row-ne0 c m es asked =
-    row_pushes m es c.args.self.now asked c.side-side.result c.side-side.ensures.value c.pushed_cells.result.now (c.pushed_cells.ensures.told m es asked)
+    row_pushes m es c.args.self.now asked c.side-side.result c.side-side.ensures.value c.pushed-cells.result.now (c.pushed-cells.ensures.told m es asked)
     c.args.event c.if-row-side.false c.loop-column.column c.loop-column-test.true c.if-cells-row-ne0.true
 
 pub returns : goal.returns
 returns c m es asked =
-    row_idle m es c.args.self.now asked c.side-side.result c.side-side.ensures.value c.pushed_cells.result.now (c.pushed_cells.ensures.told m es asked)
+    row_idle m es c.args.self.now asked c.side-side.result c.side-side.ensures.value c.pushed-cells.result.now (c.pushed-cells.ensures.told m es asked)
     c.args.event c.if-row-side.false (λ b h. c.loop-column.invariant b (omega arith))
