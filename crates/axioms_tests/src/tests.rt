@@ -113,7 +113,7 @@ fn load_buffering(rt: HostRuntime) -> Result<(), Fail> {
     let events = [read(0, 0, 11), write(0, 1), read(1, 1, 9), write(1, 0)];
     let mut cycle = [99; 64];
     assert_eq!(rt; source_cycle(&events, &mut cycle), Ok(Some(4)));
-    assert_eq!(rt; &cycle[0..5], &[8, 9, 10, 11, 99]);
+    assert_eq!(rt; &cycle[0..5], [8, 9, 10, 11, 99].as_slice());
     assert!(rt; SourceReach::of(&events)?.has_cycle());
     Ok(())
 }

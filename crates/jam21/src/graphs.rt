@@ -1,4 +1,5 @@
 // A script of calls on a graph: each answer, the drawing, the pairs of the profile, and source cycles.
+use anyhow::bail;
 use axioms::relation::draw;
 use axioms::source_steps::SourceSteps;
 use cycles::shortest::shortest_cycle;
@@ -30,10 +31,7 @@ pub fn run_script(rt: &HostRuntime, options: Options) -> anyhow::Result<()> {
                 }
             },
             Ok(None) => {}
-            Err(why) => {
-                let message = format!(in rt.alloc(); "line {number}: {why}")?;
-                return Err(message.into());
-            }
+            Err(why) => bail!("line {number}: {why}"),
         }
     }
     report(rt, options, graph.events())

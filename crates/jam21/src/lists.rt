@@ -1,4 +1,5 @@
 // A list of steps between numbered events: which events lie on a cycle?
+use anyhow::bail;
 use step_lists::step_list::{StepList, read_step};
 
 /// Reads the list from standard input and prints the report.
@@ -19,8 +20,7 @@ fn read_steps(rt: &HostRuntime) -> anyhow::Result<StepList> {
             Err(why) => Err(why),
         };
         if let Err(why) = noted {
-            let message = format!(in rt.alloc(); "line {number}: {why}")?;
-            return Err(message.into());
+            bail!("line {number}: {why}");
         }
     }
     Ok(list)

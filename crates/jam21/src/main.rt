@@ -4,6 +4,7 @@
 mod graphs;
 mod lists;
 
+use anyhow::bail;
 use reports::options::{BadOption, HELP, Input, Options};
 use std::env;
 
@@ -42,16 +43,12 @@ fn read_options(rt: &HostRuntime) -> anyhow::Result<Options> {
         };
         options = match more {
             Ok(known) => known,
-            Err(why) => {
-                let message = format!(in rt.alloc(); "{word}: {why}")?;
-                return Err(message.into());
-            }
+            Err(why) => bail!("{word}: {why}"),
         };
     }
     if !named {
         let why = BadOption::NoProfile;
-        let message = format!(in rt.alloc(); "{why}")?;
-        return Err(message.into());
+        bail!("{why}");
     }
     Ok(options)
 }
