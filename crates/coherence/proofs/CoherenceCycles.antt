@@ -3,13 +3,13 @@ use Rattle.std.proofs.Common.{◌≡◌, ℕ, ◌+◌, Bool, true, List, length,
 use Rattle.std.proofs.lemmas.Bool.{false≢true}
 use Rattle.measures.specs.declared.settling.Refusal.{Refusal}
 use Rattle.measures.specs.Walks.{Yes}
-use Rattle.cycles.specs.Answers.{CycleOrNone, ShortestCycle, CycleTest}
+use Rattle.cycles.specs.Answers.{CycleOrNone, CycleTest}
 use Rattle.cycles.specs.Cycles.{HasCycle}
 use Rattle.cycles.specs.Tables.{TableOf}
 use Rattle.cycles.proofs.Carrying.{table_same, answer_carries, decides_carries}
 use Rattle.graph.specs.declared.event.Event.{Event}
 use Rattle.profiles.specs.Meaning.{Meaning}
-use Rattle.coherence.specs.Coherence.{ShortestAnswer, TestAnswer}
+use Rattle.coherence.specs.Coherence.{TestAnswer}
 use Rattle.axioms.specs.Relations.{Rivals, Holds, Co}
 use Rattle.axioms.specs.Rules.{is_coherence}
 use Rattle.coherence.specs.Sights.{Throughout}
@@ -53,10 +53,3 @@ pub test_answer : (s : Sight) (xs ys : List ℕ) (r : Result Bool Refusal) → F
 test_answer s xs ys (Ok has) fits square drawn done =
     (fits, λ m L told. test_told m s.events.now L xs (drawn m L told) has done.decides)
 test_answer s xs ys (Err why) fits square drawn refused = absurd (refused.unfit square)
-
--- What `coherence_cycle` answers.
-pub cycle_answer : (s : Sight) (xs old new : List ℕ) (r : Result (Option ℕ) Refusal) → Fits s.events.now s.leads.now → Fits s.events.now xs →
-    Throughout s (λ es m L. Drawn (Co m es L) (length es + 8) xs) → ShortestCycle (length s.events.now + 8) xs old new r → ShortestAnswer s old new r
-cycle_answer s xs old new (Ok o) fits square drawn done =
-    (fits, λ m L told. answer_told m s.events.now L xs (drawn m L told) old new o done.1)
-cycle_answer s xs old new (Err why) fits square drawn refused = absurd (refused.unfit square)

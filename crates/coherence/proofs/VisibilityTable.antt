@@ -11,7 +11,7 @@ use Rattle.graph.specs.Order.{Rf}
 use Rattle.profiles.specs.Meaning.{Meaning}
 use Rattle.axioms.specs.Relations.{Kept, Pushed, PushStep, Vvo}
 use Rattle.axioms.specs.Tables.{Drawn}
-use Rattle.coherence.specs.Visibility.{Fits, Told, Within, AllFit, DrawnVisibility, Gained, PushedLater}
+use Rattle.coherence.specs.Visibility.{Fits, Told, Within, AllFit, DrawnWithin, Gained, PushedLater}
 
 module _ (es : List Event) (L kept pushed : List ℕ) where
   n : ℕ
@@ -80,7 +80,7 @@ module _ (es : List Event) (L kept pushed : List ℕ) where
   -- What `draw_visibility` answers.
   pub drawing : (xs ys zs ws : List ℕ) (r : Result (Unit {0}) Refusal) → AllFit es kept pushed xs → Fits es zs → Fits es ws →
       Gained (length es + 8) (PushedLater (length es + 8) pushed L) kept ys → Gained (length es + 8) (Rf es) ys zs →
-      Either Reachable (length es + 8) zs ws r → DrawnVisibility es kept pushed L xs ws r
+      Either Reachable (length es + 8) zs ws r → DrawnWithin es kept pushed L xs ws r
   unfolding n
   drawing xs ys zs ws (Ok tt) all fits square steps sources done = (
     all,

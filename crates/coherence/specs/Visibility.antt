@@ -6,6 +6,7 @@
 --   Within m es        the profile keeps and pushes between events of the graph
 --   DrawnVisibility    what `draw_visibility` answers: three tables that fit, and then the lent one tells visibility for every
 --                      profile that the other two tell; or one that does not fit, and the lent one is as it was
+--   DrawnWithin        the same, and the lent table tells visibility for every meaning within the graph, lawful or not
 --   RowJoined          n values of a list gained the yes of n values of another
 --   Gained n S xs ys   a table that gained the steps of S
 --   PushedLater        a step from an event to whatever a later event of L is pushed to by the table xs
@@ -17,6 +18,7 @@ use Rattle.measures.specs.Reach.{yes}
 use Rattle.measures.specs.Walks.{at, Leads, Yes}
 use Rattle.graph.specs.declared.event.Event.{Event}
 use Rattle.graph.specs.Events.{Present}
+use Rattle.profiles.specs.Laws.{Lawful}
 use Rattle.profiles.specs.Meaning.{Meaning}
 use Rattle.axioms.specs.Orders.{Before}
 use Rattle.axioms.specs.Relations.{Kept, Pushed, Vvo}
@@ -44,6 +46,14 @@ pub record Refused (es : List Event) (kept pushed xs ys : List ℕ) (why : Refus
 -- the lent table held xs, and holds ys
 abbrev pub DrawnVisibility : List Event → List ℕ → List ℕ → List ℕ → List ℕ → List ℕ → Result (Unit {0}) Refusal → Type 0
 DrawnVisibility es kept pushed L xs ys r =
+    MatchResult r
+    (λ _. AllFit es kept pushed xs
+    × ((m : Meaning) → Lawful m → Drawn (Kept m es) (length es + 8) kept → Drawn (Pushed m es) (length es + 8) pushed → Told m es L ys))
+    (Refused es kept pushed xs ys)
+
+-- the same for every meaning that keeps and pushes between events of the graph, lawful or not
+abbrev pub DrawnWithin : List Event → List ℕ → List ℕ → List ℕ → List ℕ → List ℕ → Result (Unit {0}) Refusal → Type 0
+DrawnWithin es kept pushed L xs ys r =
     MatchResult r
     (λ _. AllFit es kept pushed xs
     × ((m : Meaning) → Within m es → Drawn (Kept m es) (length es + 8) kept → Drawn (Pushed m es) (length es + 8) pushed → Told m es L ys))

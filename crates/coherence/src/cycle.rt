@@ -97,7 +97,7 @@ impl Sight<'_, '_> {
     ///
     /// Answers the number of steps, which is the number of events written; the rest of `cycle` is as it was. Without a cycle the
     /// answer is `None`. Where the table of visibility does not fit the events the call is refused. In both, `cycle` is as it was.
-    pub fn coherence_cycle(&self, cycle: &mut [u8; 64]) -> Result<Option<usize>, Refusal>
+    pub fn coherence_cycle(&self, cycle: &mut [u8; 64]) -> Result<Option<u8>, Refusal>
         ensures { ShortestAnswer self.now cycle.old cycle.new result }
     {
         let side = self.events.len() + INITIAL as usize;
@@ -110,7 +110,10 @@ impl Sight<'_, '_> {
         let mut table = [0u8; 4096];
         let cells = &mut table[0..side * side];
         self.draw_coherence(cells)?;
-        shortest_cycle(cells, side, cycle)
+        match shortest_cycle(cells, side, cycle)? {
+            Some(count) => Ok(Some(count as u8)),
+            None => Ok(None),
+        }
     }
 
     /// Is there a coherence cycle? Where the table of visibility does not fit the events the call is refused.

@@ -2,7 +2,7 @@
 ghost use Rattle.std.specs.Prelude.{◌+◌, ◌≤◌, length};
 ghost use Rattle.measures.specs.Outcome.{Square};
 ghost use Rattle.graph.specs.Order.{Rf};
-ghost use Rattle.coherence.specs.Visibility.{Fits, DrawnVisibility, RowJoined, Gained, PushedLater};
+ghost use Rattle.coherence.specs.Visibility.{Fits, DrawnVisibility, DrawnWithin, RowJoined, Gained, PushedLater};
 
 use graph::event::{Event, INITIAL};
 use measures::reach::settle_reach;
@@ -20,7 +20,8 @@ pub fn draw_visibility(
     list: &[u8],
     cells: &mut [u8],
 ) -> Result<(), Refusal>
-    ensures { DrawnVisibility events.now kept.now pushed.now list.now cells.old cells.new result }
+    ensures drawn { DrawnVisibility events.now kept.now pushed.now list.now cells.old cells.new result }
+    ensures within { DrawnWithin events.now kept.now pushed.now list.now cells.old cells.new result }
 {
     let side = events.len() + INITIAL as usize;
     if side > LARGEST {

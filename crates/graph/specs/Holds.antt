@@ -5,7 +5,7 @@
 --   Meets g r out    the graph g and the answer r are those of the outcome
 --   Does c g g' r    whatever steps the graph g stood by, the call c that left g' and answered r did as
 --                    the history does
---   written c k hs es   the slice es of a graph with k added events, which stood by the steps hs, once the call c is accepted
+--   written c g hs   the slice of the graph g, which stood by the steps hs, once the call c is accepted
 --   Equal g h        two graphs are equal: their added events are, with their sources
 use Rattle.std.specs.Prelude.{◌≡◌, ℕ, List, take, Some, Result, slice_set}
 use Rattle.graph.specs.declared.call.Call.{Call}
@@ -29,10 +29,10 @@ Meets g r out = (r ≡ out.answer) × Holds g out.steps
 abbrev pub Does : Call → Graph → Graph → Result ℕ Refused → Type 0
 Does c g g' r = (hs : List Step) → Holds g hs → Meets g' r (attempt (room_of g.events.now) hs c)
 
-abbrev pub written : Call → ℕ → List Step → List Event → List Event
-written (Add t n l v) k hs es = slice_set es k (fresh t (code_of n) l v)
-written (Source r w) k hs es = resource es r (Some w)
-written TakeBack k hs es = undone hs es
+abbrev pub written : Call → Graph → List Step → List Event
+written (Add t n l v) g hs = slice_set g.events.now g.count (fresh t (code_of n) l v)
+written (Source r w) g hs = resource g.events.now r (Some w)
+written TakeBack g hs = undone hs g.events.now
 
 abbrev pub Equal : Graph → Graph → Type 0
 Equal g h = added_events g ≡ added_events h

@@ -104,6 +104,7 @@ fn find_coherence_cycle(sight: &Sight<'_, '_>, steps: &mut [Step; 64]) -> Option
     };
     match found {
         Some(count) => {
+            let count = count as usize;
             lay(&CoherenceNamer { sight: *sight }, &cycle[0..count], steps);
             Some(count)
         }

@@ -3,7 +3,7 @@ use Rattle.std.proofs.Common.{◌≡◌, ℕ, suc, ◌+◌, ◌<◌, ◌≤◌, 
 use lib.ListN.{length-map, get_or-map}
 use Rattle.std.proofs.lemmas.List.{take_more, take_more_set, map-set, set-get_or, length-take-le, take_all}
 use Rattle.graph.specs.declared.call.Call.{Call}
-use Rattle.graph.specs.declared.call.Call.TheVariants.{Add}
+use Rattle.graph.specs.declared.call.Call.TheVariants.{Add, Source, TakeBack}
 use Rattle.graph.specs.declared.event.Event.{Event}
 use Rattle.graph.specs.declared.graph.Graph.{Graph}
 use Rattle.graph.specs.declared.refusal.Refused.{Refused}
@@ -12,7 +12,7 @@ use Rattle.graph.specs.History.{Step, graph, attempt}
 use Rattle.graph.specs.Holds.{Holds, Meets, written}
 use Rattle.graph.specs.Memory.{room_of}
 use Rattle.marker.specs.declared.entries.Entry.{Entry}
-use Rattle.marker.specs.Calls.{after, answers, memory, stored, most}
+use Rattle.marker.specs.Calls.{after, answers, memory, stored, most, rewritten}
 use Rattle.marker.specs.Entries.{call, answer, Performed}
 use Rattle.marker.proofs.Reaching.{stored_keeps}
 
@@ -69,10 +69,16 @@ added_long g ks holds =
     let within : g.count ≤ length g.events.now = omega (arith, holds.within) in
     sym (ap length holds.events ∙ length-take-le g.count g.events.now within)
 
+-- What a graph's call writes, by the graph's slice and count alone.
+written_is : (c : Call) (g : Graph) (ks : List Step) → written c g ks ≡ rewritten c g.count ks g.events.now
+written_is (Add t n l v) g ks = refl
+written_is (Source r w) g ks = refl
+written_is TakeBack g ks = refl
+
 module _ (g g' : Graph) (xs ys : List Entry) (i : ℕ) (hs : List Step) (s : Sofar g g' xs ys i hs) (in-xs : i < length xs) where
   pub one_more : (g'' : Graph) (r : Result ℕ Refused) (c : Call) → c ≡ (get_or ys i no_entry).call →
       ((ks : List Step) → Holds g' ks → Meets g'' r (attempt (room_of g'.events.now) ks c)) →
-      ((ks : List Step) → Holds g' ks → g''.events.now ≡ cond (is_ok r) (written c g'.count ks g'.events.now) g'.events.now) →
+      ((ks : List Step) → Holds g' ks → g''.events.now ≡ cond (is_ok r) (written c g' ks) g'.events.now) →
       length g''.events.now ≡ length g'.events.now →
       Sofar g g'' xs (set ys i (record { call = c; answer = r })) (i + 1) hs
   one_more g'' r c is_call does writes len =
@@ -87,8 +93,9 @@ module _ (g g' : Graph) (xs ys : List Entry) (i : ℕ) (hs : List Step) (s : Sof
       let more : take (i + 1) (map call xs) ≡ cs ++ c ∷ [] = take_more (map call xs) i no_entry.call (omega (arith, length-map xs call)) ∙ ap (λ z. cs ++ z ∷ []) at in
       let met : Meets g'' r (attempt rm ks c) = subst (λ m. Meets g'' r (attempt m ks c)) s.room (does ks s.stands) in
       let same : stored rm ks fs c ≡ g''.events.now =
-      ap (λ a. cond (is_ok a) (written c (length (graph ks)) ks fs) fs) (sym met.0)
-      ∙ ap (λ n. cond (is_ok r) (written c n ks fs) fs) (sym (added_long g' ks s.stands))
+      ap (λ a. cond (is_ok a) (rewritten c (length (graph ks)) ks fs) fs) (sym met.0)
+      ∙ ap (λ n. cond (is_ok r) (rewritten c n ks fs) fs) (sym (added_long g' ks s.stands))
+      ∙ ap (λ zs. cond (is_ok r) zs fs) (sym (written_is c g' ks))
       ∙ sym (writes ks s.stands) in
       record {
         calls = map-set call ys i e ∙ ap (λ z. set (map call ys) i z) (is_call ∙ sym (get_or-map call ys i no_entry)) ∙ set-get_or (map call ys) i no_entry.call ∙ s.calls;

@@ -70,10 +70,10 @@ module _ (es : List Event) (m : Meaning) (law : Lawful m) (kept pushed : List �
 pub cyclic_told : (es : List Event) (kept pushed L ys : List ℕ) (has : Bool) → Fits es kept → Fits es pushed →
     ((m : Meaning) → Within m es → Drawn (Kept m es) (length es + 8) kept → Drawn (Pushed m es) (length es + 8) pushed → Told m es L ys) →
     ((m : Meaning) (M : List ℕ) → Told m es M ys → Decides has (CoherenceCycle m es M)) → Decides has (Cyclic es kept pushed L)
-cyclic_told es kept pushed L ys has Fits-Kept fits-pushed drawn decides =
+cyclic_told es kept pushed L ys has fits_kept fits_pushed drawn decides =
     let n = length es + 8 in
     let m = tabled n kept pushed in
     Decides-like has
-    (λ c. record { kept_fits = Fits-Kept; pushed_fits = fits-pushed; cycle = c })
+    (λ c. record { kept_fits = fits_kept; pushed_fits = fits_pushed; cycle = c })
     (λ c. c.cycle)
     (decides m L (drawn m (tabled_within es kept pushed) (tabled_drawn n kept) (tabled_drawn n pushed)))

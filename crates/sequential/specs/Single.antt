@@ -3,6 +3,8 @@
 --
 --   Jam21 m            m is JAM21: it keeps and pushes the pairs that the rules of JAM21 say
 --   AllSc es           every added event is an sc access
+--   Good m es L        L is a push order, it is lawful, and steps of coherence make no cycle under it
+--   Permitted m es     there is no source cycle, and some push order is good
 --   Single es S        S is a single order: it lists the events, initial writes too, each once; program order goes
 --                      forward in it; each read stands after its source, with no other write of the read's
 --                      location between
@@ -17,7 +19,7 @@ use Rattle.profiles.specs.Meaning.{Meaning}
 use Rattle.profiles.specs.Modes.{is_sc_access}
 use Rattle.profiles.specs.Rules.{Kept, Pushed}
 use Rattle.axioms.specs.Orders.{Listed, Before, Once}
-use Rattle.axioms.specs.Permitted.{Permitted}
+pub use Rattle.axioms.specs.Permitted.{Good, Permitted}
 
 pub record Jam21 (m : Meaning) : Type 0 where
   pub kept : (es : List Event) (a b : ℕ) → Decides (m.kept es a b) (Kept es a b)

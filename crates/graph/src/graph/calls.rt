@@ -112,7 +112,7 @@ impl<'a> Graph<'a> {
     /// Makes one call and gives its answer.
     pub fn perform(&mut self, call: Call) -> Result<u16, Refused>
         ensures told { Does call self.old self.new result }
-        ensures slice { (hs : List Step) → Holds self.old hs → self.new.events.now ≡ cond (is_ok result) (written call self.old.count hs self.old.events.now) self.old.events.now }
+        ensures slice { (hs : List Step) → Holds self.old hs → self.new.events.now ≡ cond (is_ok result) (written call self.old hs) self.old.events.now }
         ensures same { is_err result ≡ true → self.new ≡ self.old }
         ensures len { length self.new.events.now ≡ length self.old.events.now }
         ensures lent { self.new.events.ghost_name ≡ self.old.events.ghost_name }

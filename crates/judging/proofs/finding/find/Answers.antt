@@ -37,7 +37,7 @@ find_coherence_cycle-requires g c =
     let m = g.P.Profile.meaning c.args.profile.now in
     let es = c.args.events.now in
     let asked = c.in-Ok.ensures in
-    let told = asked_told m es c.args.list.now c.in-Ok.pairs asked _ _ _ (c.kept.ensures.told m es asked) (c.pushed.ensures.told m es asked) c.in-Ok-draw_visibility.ensures.1 in
+    let told = asked_told m es c.args.list.now c.in-Ok.pairs asked _ _ _ (c.kept.ensures.told m es asked) (c.pushed.ensures.told m es asked) c.in-Ok-draw_visibility.ensures.within.1 in
     record {
       fits = told.fits;
       told = record { meaning = m; list = c.args.list.now; told = told };
@@ -50,7 +50,7 @@ returns-in-Some-find_coherence_cycle g c =
     let L = c.args.list.now in
     let asked = c.in-Ok.ensures in
     let pushing = (c.is_push_order.ensures m es asked).0 c.if-not-is_push_order.false in
-    let told = asked_told m es L c.in-Ok.pairs asked _ _ _ (c.kept.ensures.told m es asked) (c.pushed.ensures.told m es asked) c.in-Ok-draw_visibility.ensures.1 in
+    let told = asked_told m es L c.in-Ok.pairs asked _ _ _ (c.kept.ensures.told m es asked) (c.pushed.ensures.told m es asked) c.in-Ok-draw_visibility.ensures.within.1 in
     let w = c.in-Some-find_coherence_cycle.ensures m L told in
     record {
       pushing = pushing;
@@ -74,7 +74,7 @@ returns-in-None g c =
     let L = c.args.list.now in
     let asked = c.in-Ok.ensures in
     let pushing = (c.is_push_order.ensures m es asked).0 c.if-not-is_push_order.false in
-    let told = asked_told m es L c.in-Ok.pairs asked _ _ _ (c.kept.ensures.told m es asked) (c.pushed.ensures.told m es asked) c.in-Ok-draw_visibility.ensures.1 in
+    let told = asked_told m es L c.in-Ok.pairs asked _ _ _ (c.kept.ensures.told m es asked) (c.pushed.ensures.told m es asked) c.in-Ok-draw_visibility.ensures.within.1 in
     record {
       pushing = pushing;
       few = omega arith;

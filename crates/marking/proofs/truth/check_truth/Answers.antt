@@ -41,7 +41,7 @@ slice_bounds-table-end c =
 pub unreachable-requires : goal.unreachable-requires
 unreachable-requires c =
     let n = c.side-side.result in
-    c.in_default.ensures.unfit
+    c.in_default.ensures.within.unfit
     (all_fit c.requires.asked.0 _ c.args.pairs.now c.requires.asked.1 c.kept.result.now c.pushed.result.now _ c.requires.few
     c.kept.ensures.size c.pushed.ensures.size
     (part_long _ (n * n) (square n c.side-side.ensures.small) ∙ ap (λ k. k * k) c.side-side.ensures.value))
@@ -50,7 +50,7 @@ pub returns : goal.returns
 returns c = λ m bs asked t.
     let L = c.args.layout.now.order.now in
     let told = seen m _ c.args.pairs.now asked L c.kept.result.now c.pushed.result.now c.draw_visibility.new.cells
-    (c.kept.ensures.told m _ asked) (c.pushed.ensures.told m _ asked) c.in-Ok.ensures.1 in
+    (c.kept.ensures.told m _ asked) (c.pushed.ensures.told m _ asked) c.in-Ok.ensures.within.1 in
     let ordered : OrderedBy c.args.layout.now.verdict c.args.events.now L = elim c.if-denies_source_cycle.branch [
       | else-denies_source_cycle w ↦ inl w.if-denies_source_cycle.ensures
       | then-denies_source_cycle+in_ok-check_order w ↦ inr w.in_ok-check_order.ensures

@@ -10,6 +10,6 @@ slice_bounds-table-end c =
 
 pub returns-in-Ok-has_coherence_cycle : goal.returns-in-Ok-has_coherence_cycle
 returns-in-Ok-has_coherence_cycle c =
-    let drawn = c.in-Ok.ensures in
+    let drawn = c.in-Ok.ensures.within in
     cyclic_told c.args.events.now c.args.kept.now c.args.pushed.now c.args.list.now c.draw_visibility.new.cells c.in-Ok-has_coherence_cycle.has
     drawn.0.0 drawn.0.1.0 drawn.1 c.in-Ok-has_coherence_cycle.ensures.1
