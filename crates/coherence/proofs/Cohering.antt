@@ -1,5 +1,5 @@
 -- A step of coherence holds where the write is visible or a read shows it.
-use Rattle.std.proofs.Common.{◌≡◌, ℕ, ◌+◌, ◌-◌, ◌<◌, ◌≤◌, true, false, ◌⊎◌, List, length, get_or, refl, ap, inl, inr, arith, below_more}
+use Rattle.std.proofs.Common.{◌≡◌, ℕ, ◌+◌, ◌-◌, ◌<◌, ◌≤◌, true, ◌⊎◌, List, length, get_or, refl, ap, inl, inr, arith, below_more}
 use Rattle.std.proofs.lemmas.Bool.{both_ways, cond-true, lt-ltb, false≢true}
 use Rattle.graph.specs.declared.event.Event.{Event}
 use Rattle.graph.specs.Codes.{is_read}

@@ -18,7 +18,7 @@ use Rattle.measures.specs.Reach.{yes}
 use Rattle.measures.specs.Walks.{at, Leads, Yes}
 use Rattle.graph.specs.declared.event.Event.{Event}
 use Rattle.graph.specs.Events.{Present}
-use Rattle.profiles.specs.Laws.{Lawful}
+use Rattle.profiles.specs.Laws as profiles
 use Rattle.profiles.specs.Meaning.{Meaning}
 use Rattle.axioms.specs.Orders.{Before}
 use Rattle.axioms.specs.Relations.{Kept, Pushed, Vvo}
@@ -48,7 +48,7 @@ abbrev pub DrawnVisibility : List Event → List ℕ → List ℕ → List ℕ �
 DrawnVisibility es kept pushed L xs ys r =
     MatchResult r
     (λ _. AllFit es kept pushed xs
-    × ((m : Meaning) → Lawful m → Drawn (Kept m es) (length es + 8) kept → Drawn (Pushed m es) (length es + 8) pushed → Told m es L ys))
+    × ((m : Meaning) → profiles.Lawful m → Drawn (Kept m es) (length es + 8) kept → Drawn (Pushed m es) (length es + 8) pushed → Told m es L ys))
     (Refused es kept pushed xs ys)
 
 -- the same for every meaning that keeps and pushes between events of the graph, lawful or not

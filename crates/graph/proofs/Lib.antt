@@ -1,5 +1,6 @@
 pub mod Deciding
 pub mod Looking
+pub mod Refusing
 mod Equality
 pub mod Fitting
 mod Checking

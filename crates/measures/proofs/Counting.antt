@@ -1,9 +1,9 @@
 -- A settled table of step counts says the fewest steps.
-use Rattle.std.proofs.Common.{◌≡◌, ℕ, ◌+◌, ◌*◌, ◌<◌, ◌≤◌, min, List, [], ◌∷◌, length, sym, refl, ap, ◌∙◌, subst, inl, inr, arith}
+use Rattle.std.proofs.Common.{◌≡◌, ℕ, ◌*◌, ◌<◌, ◌≤◌, min, List, [], ◌∷◌, length, refl, ap, ◌∙◌, subst, inl, inr, arith}
 use Rattle.std.specs.List.{AllByRecursion as All}
 use Rattle.measures.specs.Paths.{entry, weight, Settled}
-use Rattle.measures.specs.Steps.{Steps, counted, no_steps, added, fewer}
-use Rattle.measures.specs.Walks.{at, Counts, Walks, last, more, Fewest}
+use Rattle.measures.specs.Steps.{counted, no_steps, added, fewer}
+use Rattle.measures.specs.Walks.{at, Walks, last, more, Fewest}
 use Rattle.measures.proofs.Tables.{entry_is}
 
 -- A path whose counts add up to k.

@@ -1,5 +1,5 @@
 -- The order that choice makes, from the laws.
-use Rattle.std.proofs.Common.{◌≡◌, ◌⊎◌, sym, refl, ap, ◌∙◌, inl, inr, ⊎_elim}
+use Rattle.std.proofs.Common.{◌≡◌, ⊎_elim}
 use Rattle.measures.specs.Laws.{Laws}
 use Rattle.measures.specs.Paths.{Beats}
 

@@ -1,5 +1,5 @@
 -- A settled yes/no table says what can be reached.
-use Rattle.std.proofs.Common.{◌≡◌, ℕ, ◌*◌, ◌<◌, Bool, true, false, ◌&&◌, ◌||◌, List, [], ◌∷◌, length, sym, refl, ap, ◌∙◌, inl, inr}
+use Rattle.std.proofs.Common.{◌≡◌, ℕ, ◌*◌, ◌<◌, true, false, ◌&&◌, ◌||◌, List, [], ◌∷◌, length, sym, ◌∙◌, inl, inr}
 use Rattle.std.specs.List.{AllByRecursion as All}
 use Rattle.std.proofs.lemmas.Bool.{and_parts, and_from, or_right, both_ways}
 use Rattle.measures.specs.Paths.{entry, weight, Settled}

@@ -5,7 +5,7 @@
 --   added x y     the sum; a sum above 64 is none
 --   fewer x y     the lower of two counts
 --   step_laws     the laws of a measure, at step counts
-use Rattle.std.specs.Prelude.{◌≡◌, ℕ, ◌+◌, ◌<◌, ◌≤◌, min, ◌⊎◌}
+use Rattle.std.specs.Prelude.{◌≡◌, ℕ, ◌+◌, ◌≤◌, min, ◌⊎◌}
 use Rattle.std.proofs.Common.{inl, inr, arith}
 use mathlib.Core.HLevel.{is_prop→PathP}
 use Rattle.std.proofs.Math.Bridge.{le_prop}

@@ -3,7 +3,7 @@ use Rattle.std.proofs.Common.{◌≡◌, ℕ, ◌+◌, ◌*◌, ◌<◌, ◌≤�
 use Rattle.std.proofs.lemmas.Bool.{cases_lt, cases_eq}
 use Rattle.sheets.specs.declared.step.Step.{Step}
 use Rattle.sheets.specs.declared.verdict.Verdict.{Verdict}
-use Rattle.sheets.specs.Entries.{from, to, rule, reader, second, next, Stands}
+use Rattle.sheets.specs.Entries.{from, to, reader, second, next, Stands}
 use Rattle.sheets.specs.Faults.{ReaderAt, Fault, absent_from, absent_to, foreign_rule, wrong_reader, wrong_second, broken, repeated}
 use Rattle.sheets.specs.Steps.{readers}
 use Rattle.sheets.specs.Verdicts.{Belongs}

@@ -1,6 +1,5 @@
-use Rattle.std.proofs.Common.{◌≡◌, ◌*◌, Bool, true, false, Decides, sym, refl, ◌∙◌, subst, arith}
+use Rattle.std.proofs.Common.{◌≡◌, ◌*◌, Decides, sym, subst, arith}
 use Rattle.std.proofs.lemmas.Bool.Decides.{Decides-at}
-use Rattle.std.proofs.lemmas.Bool.{both_ways}
 use Rattle.measures.specs.Reach.{yes}
 use Rattle.axioms.proofs.Drawing.{drawn_more, drawn_all, place_within}
 use Rattle.axioms.proofs.relation.draw.Goals as goal

@@ -1,4 +1,4 @@
-use Rattle.std.proofs.Common.{◌≡◌, ◌+◌, ◌*◌, ◌≤◌, length, subst, mul-le-mul, arith, rules}
+use Rattle.std.proofs.Common.{◌+◌, ◌*◌, ◌≤◌, length, subst, mul-le-mul, rules}
 use Rattle.measures.specs.Walks.{Yes}
 use Rattle.cycles.specs.Answers.{CycleOrNone}
 use Rattle.axioms.specs.Relations.{Co}

@@ -1,4 +1,4 @@
-use Rattle.std.proofs.Common.{◌≡◌, ◌+◌, ◌*◌, ◌≤◌, get_or, sym, ◌∙◌, subst, arith}
+use Rattle.std.proofs.Common.{◌≤◌, sym, subst, arith}
 use Rattle.measures.specs.Walks.{Walks}
 use Rattle.step_lists.proofs.step_list.StepList.shortest_cycles.Goals as goal
 
