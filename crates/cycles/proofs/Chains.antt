@@ -1,6 +1,6 @@
 -- Closed chains: where there is one, some vertex leads to itself, and the other way round; and their steps by places.
 use Rattle.std.proofs.Common.{◌≡◌, ℕ, zero, suc, ◌+◌, ◌<◌, List, [], ◌∷◌, length, get_or, drop, ap, ◌∙◌, add-one, arith}
-use Rattle.std.specs.List.{AllByRecursion as All}
+use Rattle.std.specs.List.{AllByRecursion}
 use Rattle.std.proofs.ByRecursion.{All-from_get_or}
 use Rattle.std.proofs.lemmas.List.{get_or_append_left}
 use Rattle.cycles.specs.Answers.{Wrote}
@@ -22,7 +22,7 @@ module _ (R : ℕ → ℕ → Type 0) where
       let s = shorten R h.0 h.0 w.0 w.1 in
       (h.0 ∷ s.mid, record { closed = s.walk; once = s.distinct })
 
-  pub closed_below : (n : ℕ) → ((a b : ℕ) → R a b → (a < n) × (b < n)) → (vs : List ℕ) → Closed R vs → All (λ v. v < n) vs
+  pub closed_below : (n : ℕ) → ((a b : ℕ) → R a b → (a < n) × (b < n)) → (vs : List ℕ) → Closed R vs → AllByRecursion (λ v. v < n) vs
   closed_below n bounds [] p = absurd p
   closed_below n bounds (v ∷ vs) p = walk_below R n bounds v v vs p
 

@@ -1,6 +1,6 @@
 -- What the way from the nearest vertex back to itself is: a shortest cycle.
 use Rattle.std.proofs.Common.{◌≡◌, ℕ, ◌+◌, ◌<◌, ◌≤◌, List, [], ◌∷◌, length, sym, ap, ◌∙◌, subst, inl, inr, arith}
-use Rattle.std.specs.List.{AllByRecursion as All}
+use Rattle.std.specs.List.{AllByRecursion}
 use Rattle.std.proofs.ByRecursion.{All-weaker}
 use Rattle.std.proofs.lemmas.Bool.{cases_lt, cases_order}
 use Rattle.measures.specs.Walks.{at}
@@ -59,7 +59,7 @@ module _ (R : ℕ → ℕ → Type 0) (n : ℕ) (bounds : (a b : ℕ) → R a b 
     way_walk v (w ∷ ws) p = (p.0.step, way_walk w ws p.1)
 
     -- Each vertex on the way is nearer to s than the one at its start.
-    way_nearer : (v m : ℕ) (ws : List ℕ) → Way R n ys s v ws → at n ys v s ≤ m → All (λ w. at n ys w s < m) ws
+    way_nearer : (v m : ℕ) (ws : List ℕ) → Way R n ys s v ws → at n ys v s ≤ m → AllByRecursion (λ w. at n ys w s < m) ws
     way_nearer v m [] p h = tt
     way_nearer v m (w ∷ ws) p h =
         let e = p.0.nearer in

@@ -1,6 +1,6 @@
 -- Walks joined, turned and cut: where there is a walk there is one without a vertex twice, so one of at most n steps.
 use Rattle.std.proofs.Common.{◌≡◌, ℕ, zero, suc, ◌+◌, ◌<◌, ◌≤◌, ◌⊎◌, List, [], ◌∷◌, ◌++◌, length, sym, subst, inl, inr, ⊎_elim, arith, length-append}
-use Rattle.std.specs.List.{AllByRecursion as All}
+use Rattle.std.specs.List.{AllByRecursion}
 use Rattle.std.proofs.lemmas.Bool.{cases_eq}
 use Rattle.measures.specs.Walks.{Leads, last, more}
 use Rattle.cycles.specs.Cycles.{Walk, Distinct}
@@ -10,8 +10,8 @@ record Without (v : ℕ) (xs : List ℕ) : Type 1 where
   rest : List ℕ
   distinct : Distinct rest
   long : length xs ≤ suc (length rest)
-  apart : All (λ y. v ≡ y → ⊥) rest
-  keeps : (P : ℕ → Type 0) → All P xs → All P rest
+  apart : AllByRecursion (λ y. v ≡ y → ⊥) rest
+  keeps : (P : ℕ → Type 0) → AllByRecursion P xs → AllByRecursion P rest
 
 without : (v : ℕ) (xs : List ℕ) → Distinct xs → Without v xs
 without v [] d = record { rest = []; distinct = tt; long = omega arith; apart = tt; keeps = λ P h. tt }
@@ -22,7 +22,7 @@ without v (x ∷ xs) d =
             rest = xs;
             distinct = d.1;
             long = omega arith;
-            apart = subst (λ u. All (λ y. u ≡ y → ⊥) xs) (sym e) d.0;
+            apart = subst (λ u. AllByRecursion (λ y. u ≡ y → ⊥) xs) (sym e) d.0;
             keeps = λ P h. h.1;
           }
       | inr e ↦
@@ -36,12 +36,12 @@ without v (x ∷ xs) d =
           }
     ]
 
-tighter : (n : ℕ) (xs : List ℕ) → All (λ x. x < suc n) xs → All (λ y. n ≡ y → ⊥) xs → All (λ x. x < n) xs
+tighter : (n : ℕ) (xs : List ℕ) → AllByRecursion (λ x. x < suc n) xs → AllByRecursion (λ y. n ≡ y → ⊥) xs → AllByRecursion (λ x. x < n) xs
 tighter n [] h k = tt
 tighter n (x ∷ xs) h k = (let p = h.0 in let q = k.0 in omega arith, tighter n xs h.1 k.1)
 
 -- Numbers below n, none of which stands twice, are at most n.
-pub few : (n : ℕ) (xs : List ℕ) → Distinct xs → All (λ x. x < n) xs → length xs ≤ n
+pub few : (n : ℕ) (xs : List ℕ) → Distinct xs → AllByRecursion (λ x. x < n) xs → length xs ≤ n
 few zero [] d h = omega arith
 few zero (x ∷ xs) d h = let p = h.0 in omega arith
 few (suc n) xs d h =
@@ -63,13 +63,13 @@ module _ (R : ℕ → ℕ → Type 0) where
 
   -- On a walk from a to s each vertex has a walk to itself, through the walk from s to a, of as many steps as both together.
   around : (s a : ℕ) (us vs : List ℕ) → Walk R s us a → Walk R a vs s →
-      All (λ v. (ws : List ℕ) × Walk R v ws v × (length ws ≡ length us + length vs + 1)) vs
+      AllByRecursion (λ v. (ws : List ℕ) × Walk R v ws v × (length ws ≡ length us + length vs + 1)) vs
   around s a us [] p q = tt
   around s a us (v ∷ vs) p q =
       let on = join_walks s a v us [] p q.0 in
       let long = length-append us (a ∷ []) in (
         turned vs v q.1 (us ++ a ∷ []) on (omega arith),
-        subst (λ m. All (λ v. (ws : List ℕ) × Walk R v ws v × (length ws ≡ m)) vs) (omega arith) (around s v (us ++ a ∷ []) vs on q.1),
+        subst (λ m. AllByRecursion (λ v. (ws : List ℕ) × Walk R v ws v × (length ws ≡ m)) vs) (omega arith) (around s v (us ++ a ∷ []) vs on q.1),
       )
     where
       turned : (vs : List ℕ) (v : ℕ) → Walk R v vs s → (ws : List ℕ) → Walk R s ws v → length ws ≡ length us + 1 →
@@ -77,11 +77,11 @@ module _ (R : ℕ → ℕ → Type 0) where
       turned vs v p ws q e = (vs ++ s ∷ ws, join_walks v s v vs ws p q, omega (arith, length-append vs (s ∷ ws)))
 
   -- Each vertex of a closed walk has a closed walk of as many steps.
-  pub turns : (s : ℕ) (vs : List ℕ) → Walk R s vs s → All (λ v. (ws : List ℕ) × Walk R v ws v × (length ws ≡ length vs)) vs
+  pub turns : (s : ℕ) (vs : List ℕ) → Walk R s vs s → AllByRecursion (λ v. (ws : List ℕ) × Walk R v ws v × (length ws ≡ length vs)) vs
   turns s [] p = tt
   turns s (v ∷ vs) p = (
     (vs ++ s ∷ [], join_walks v s v vs [] p.1 p.0, omega (arith, length-append vs (s ∷ []))),
-    subst (λ m. All (λ v. (ws : List ℕ) × Walk R v ws v × (length ws ≡ m)) vs) (omega arith) (around s v [] vs p.0 p.1),
+    subst (λ m. AllByRecursion (λ v. (ws : List ℕ) × Walk R v ws v × (length ws ≡ m)) vs) (omega arith) (around s v [] vs p.0 p.1),
   )
 
   pub record Short (a b : ℕ) : Type 0 where
@@ -90,7 +90,7 @@ module _ (R : ℕ → ℕ → Type 0) where
     pub distinct : Distinct (a ∷ mid)
 
   -- What is left of a walk from where it comes to a, if it does.
-  cut : (a v b : ℕ) (vs : List ℕ) → Walk R v vs b → Distinct (v ∷ vs) → Short a b ⊎ All (λ y. a ≡ y → ⊥) (v ∷ vs)
+  cut : (a v b : ℕ) (vs : List ℕ) → Walk R v vs b → Distinct (v ∷ vs) → Short a b ⊎ AllByRecursion (λ y. a ≡ y → ⊥) (v ∷ vs)
   cut a v b [] p d =
       elim (cases_eq a v) [
         | inl e ↦ inl (record { mid = []; walk = subst (λ u. Walk R u [] b) (sym e) p; distinct = (tt, tt) })
@@ -117,7 +117,7 @@ module _ (R : ℕ → ℕ → Type 0) where
       ]
 
   module _ (n : ℕ) (bounds : (a b : ℕ) → R a b → (a < n) × (b < n)) where
-    pub walk_below : (a b : ℕ) (vs : List ℕ) → Walk R a vs b → All (λ v. v < n) (a ∷ vs)
+    pub walk_below : (a b : ℕ) (vs : List ℕ) → Walk R a vs b → AllByRecursion (λ v. v < n) (a ∷ vs)
     walk_below a b [] p = ((bounds a b p).0, tt)
     walk_below a b (v ∷ vs) p = ((bounds a v p.0).0, walk_below v b vs p.1)
 

@@ -11,7 +11,7 @@
 --   NotAfter us vs   us is vs, or has the lower vertex at the first place where they differ
 --   First R vs       no closed chain of as many steps as vs comes before it in that order
 use Rattle.std.specs.Prelude.{◌≡◌, ℕ, ◌<◌, ◌≤◌, ◌⊎◌, List, [], ◌∷◌, length, ◌≢◌}
-use Rattle.std.specs.List.{AllByRecursion as All}
+use Rattle.std.specs.List.{AllByRecursion}
 use Rattle.measures.specs.Walks.{Leads}
 
 -- there is one step more than there are vertices between
@@ -26,7 +26,7 @@ Closed R (v ∷ vs) = Walk R v vs v
 
 abbrev pub Distinct : List ℕ → Type 0
 Distinct [] = Unit {0}
-Distinct (v ∷ vs) = All (λ w. v ≢ w) vs × Distinct vs
+Distinct (v ∷ vs) = AllByRecursion (λ w. v ≢ w) vs × Distinct vs
 
 pub record Cycle (R : ℕ → ℕ → Type 0) (vs : List ℕ) : Type 0 where
   pub closed : Closed R vs
@@ -40,7 +40,7 @@ NoCycle R = (a : ℕ) → Leads R a a → ⊥
 
 abbrev pub Lowest : List ℕ → Type 0
 Lowest [] = Unit {0}
-Lowest (v ∷ vs) = All (λ w. v ≤ w) vs
+Lowest (v ∷ vs) = AllByRecursion (λ w. v ≤ w) vs
 
 pub record Shortest (R : ℕ → ℕ → Type 0) (vs : List ℕ) : Type 0 where
   pub cycle : Cycle R vs

@@ -1,7 +1,7 @@
 -- Steps laid out from a cycle show it.
 use Rattle.std.proofs.Common.{◌≡◌, ℕ, ◌+◌, ◌-◌, ◌<◌, ◌≤◌, cond, List, [], ◌∷◌, length, get_or, take, sym, refl, ap, ◌∙◌, subst, inl, inr, add-one, arith}
 use lib.ListN.{length-map}
-use Rattle.std.specs.List.{AllByRecursion as All}
+use Rattle.std.specs.List.{AllByRecursion}
 use Rattle.std.proofs.ByRecursion.{All-from_get_or}
 use Rattle.std.proofs.lemmas.List.{get_or-map, get_or-take, length-take-le, ext_get_or, length-append, get_or_append_left, get_or-append_right}
 use Rattle.std.proofs.lemmas.Bool.{cases_lt, lt-ltb, le-ltb}
@@ -54,7 +54,7 @@ module _ (N : ℕ → ℕ → NamedStep → Type 0) (vs : List ℕ) (xs : List S
       get_or-map (λ (t : Step). t.to) (take (length vs) xs) i no_step 0 (omega (arith, whole)) ∙ (at_place i k).to ∙ sym (turned_next vs i k))
       ∙ ap turned (sym laid_froms)
 
-  pub laid_all : (P : Step → Type 0) → ((x : Step) → N x.from x.to (name_of x) → P x) → All P (take (length vs) xs)
+  pub laid_all : (P : Step → Type 0) → ((x : Step) → N x.from x.to (name_of x) → P x) → AllByRecursion P (take (length vs) xs)
   laid_all P each =
       All-from_get_or P (take (length vs) xs) no_step
       (λ i h. let at = at_place i (omega (arith, whole)) in

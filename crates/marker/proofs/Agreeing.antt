@@ -1,7 +1,7 @@
 -- True sheets of one graph and one list: they have the same verdict, and none has fewer steps than the one that judging writes.
 use Rattle.std.proofs.Common.{◌≡◌, ℕ, ◌<◌, ◌≤◌, false, List, [], ◌∷◌, ◌++◌, length, Ok, Err, Result, sym, refl, ap, ◌∙◌, subst, inl, inr, arith}
 use lib.ListN.{length-map}
-use Rattle.std.specs.List.{AllByRecursion as All}
+use Rattle.std.specs.List.{AllByRecursion}
 use Rattle.std.proofs.ByRecursion.{All-weaker}
 use Rattle.std.proofs.lemmas.Bool.{false≢true}
 use Rattle.cycles.specs.Cycles.{Walk, Closed}
@@ -24,14 +24,14 @@ module _ (R : ℕ → ℕ → Type 0) where
   abbrev Steps : Step → Type 0
   Steps t = R t.from t.to
 
-  walked : (t : Step) (ts : List Step) (b : ℕ) → All Steps (t ∷ ts) → tos (t ∷ ts) ≡ froms ts ++ b ∷ [] → Walk R t.from (froms ts) b
+  walked : (t : Step) (ts : List Step) (b : ℕ) → AllByRecursion Steps (t ∷ ts) → tos (t ∷ ts) ≡ froms ts ++ b ∷ [] → Walk R t.from (froms ts) b
   walked t [] b each is = let end : t.to ≡ b = cc in subst (R t.from) end each.0
   walked t (u ∷ us) b each is =
       let next : t.to ≡ u.from = cc in
       let rest : tos (u ∷ us) ≡ froms us ++ b ∷ [] = cc in
       (subst (R t.from) next each.0, walked u us b each.1 rest)
 
-  pub chain_closed : (ts : List Step) → 0 < length ts → All Steps ts → tos ts ≡ turned (froms ts) → Closed R (froms ts)
+  pub chain_closed : (ts : List Step) → 0 < length ts → AllByRecursion Steps ts → tos ts ≡ turned (froms ts) → Closed R (froms ts)
   chain_closed [] some each is = absurd (omega arith)
   chain_closed (t ∷ ts) some each is = walked t ts t.from each is
 

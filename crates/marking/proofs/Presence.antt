@@ -1,6 +1,6 @@
 -- A sheet that is true of a graph is well laid out: its steps name present events and their readers.
 use Rattle.std.proofs.Common.{◌≡◌, ℕ, ◌+◌, ◌<◌, ◌≤◌, List, [], ◌∷◌, length, sym, refl, subst, inr, arith}
-use Rattle.std.specs.List.{AllByRecursion as All}
+use Rattle.std.specs.List.{AllByRecursion}
 use Rattle.measures.specs.Walks.{last}
 use Rattle.graph.specs.declared.event.Event.{Event}
 use Rattle.graph.specs.Events.{Present}
@@ -78,12 +78,12 @@ module _ (m : Meaning) (es : List Event) (proper : Proper es) (L : List ℕ) whe
     second_reader = second_present t.rule t.from t.to t.reader t.second sound.holds sound.unused;
   }
 
-  all_named : (v : Verdict) (ts : List Step) → All (Sound m es L v) ts → All (WellNamed (length es + 8) v) ts
+  all_named : (v : Verdict) (ts : List Step) → AllByRecursion (Sound m es L v) ts → AllByRecursion (WellNamed (length es + 8) v) ts
   all_named v [] sound = tt
   all_named v (t ∷ ts) sound = (sound_named v t sound.0, all_named v ts sound.1)
 
   abbrev Laid : Verdict → List Step → Type 0
-  Laid v ts = RightCount v (length ts) × (All (WellNamed (length es + 8) v) ts × ((tos ts ≡ turned (froms ts)) × Distinct (froms ts)))
+  Laid v ts = RightCount v (length ts) × (AllByRecursion (WellNamed (length es + 8) v) ts × ((tos ts ≡ turned (froms ts)) × Distinct (froms ts)))
 
   chain_laid : (v : Verdict) (ts : List Step) → RightCount v (length ts) → Chain m es L v ts → Laid v ts
   chain_laid v ts right chain = (right, (all_named v ts chain.sound, (chain.closed, chain.once)))

@@ -3,7 +3,7 @@
 --   OrderedBy v es L    the verdict is a source cycle; or there is none, and L is lawful
 --   Upright m es s      what is found of a true sheet s
 use Rattle.std.proofs.Common.{◌≡◌, ℕ, ◌⊎◌, List, [], ◌∷◌, length, get_or, sym, refl, subst, inl, inr, arith}
-use Rattle.std.specs.List.{flat_map, AllByRecursion as All}
+use Rattle.std.specs.List.{flat_map, AllByRecursion}
 use Rattle.std.proofs.ByRecursion.{All-get_or, All-from_get_or}
 use Rattle.graph.specs.declared.event.Event.{Event}
 use Rattle.profiles.specs.Meaning.{Meaning}
@@ -51,7 +51,7 @@ no_steps [] e = refl
 no_steps (t ∷ ts) e = absurd (omega arith)
 
 module _ (m : Meaning) (es : List Event) (L : List ℕ) where
-  sound_steps : (present : ℕ) (v : Verdict) (ts : List Step) → All (WellNamed present v) ts → StepsHold m es L ts → All (Sound m es L v) ts
+  sound_steps : (present : ℕ) (v : Verdict) (ts : List Step) → AllByRecursion (WellNamed present v) ts → StepsHold m es L ts → AllByRecursion (Sound m es L v) ts
   sound_steps present v ts named hold =
       All-from_get_or (Sound m es L v) ts none (λ k h.
       let t = get_or ts k none in
@@ -64,14 +64,14 @@ module _ (m : Meaning) (es : List Event) (L : List ℕ) where
         unused = unused_from present t.rule t.reader t.second well.first_reader well.second_reader;
       })
 
-  held : (v : Verdict) (ts : List Step) → All (Sound m es L v) ts → StepsHold m es L ts
+  held : (v : Verdict) (ts : List Step) → AllByRecursion (Sound m es L v) ts → StepsHold m es L ts
   held v ts sound k h = record {
     step = get_or ts k none;
     stands = stands_joined ts k none h;
     holds = (All-get_or (Sound m es L v) ts k none h sound).holds;
   }
 
-  shown : (v : Verdict) (ts : List Step) → RightCount v (length ts) → All (Sound m es L v) ts → tos ts ≡ turned (froms ts) → Distinct (froms ts) →
+  shown : (v : Verdict) (ts : List Step) → RightCount v (length ts) → AllByRecursion (Sound m es L v) ts → tos ts ≡ turned (froms ts) → Distinct (froms ts) →
       OrderedBy v es L → (v ≡ Clear → axioms.CoherenceCycle m es L → ⊥) → Shows m es L v ts
   shown Clear ts count sound closed once (inl e) clear = let z : ◌≡◌ {A = ℕ} 0 1 = cc in absurd (omega arith)
   shown Clear ts count sound closed once (inr o) clear = (o, (clear refl, no_steps ts count))

@@ -1,6 +1,6 @@
 -- A settled table of step counts says the fewest steps.
 use Rattle.std.proofs.Common.{◌≡◌, ℕ, ◌*◌, ◌<◌, ◌≤◌, min, List, [], ◌∷◌, length, refl, ap, ◌∙◌, subst, inl, inr, arith}
-use Rattle.std.specs.List.{AllByRecursion as All}
+use Rattle.std.specs.List.{AllByRecursion}
 use Rattle.measures.specs.Paths.{entry, weight, Settled}
 use Rattle.measures.specs.Steps.{counted, no_steps, added, fewer}
 use Rattle.measures.specs.Walks.{at, Walks, last, more, Fewest}
@@ -11,7 +11,7 @@ pub record CountedPath (n : ℕ) (xs : List ℕ) (a b k : ℕ) : Type 0 where
   pub between : List ℕ
   pub row : a < n
   pub column : b < n
-  pub within : All (λ v. v < n) between
+  pub within : AllByRecursion (λ v. v < n) between
   pub sum : (weight added (entry counted no_steps n xs) a between b).count ≡ min k 65
 
 module _ (n : ℕ) (xs : List ℕ) (square : length xs ≡ n * n) where
@@ -39,7 +39,7 @@ module _ (n : ℕ) (xs : List ℕ) (square : length xs ≡ n * n) where
         sum = omega arith;
       }
 
-  path_walks : (a b : ℕ) (vs : List ℕ) → a < n → b < n → All (λ v. v < n) vs →
+  path_walks : (a b : ℕ) (vs : List ℕ) → a < n → b < n → AllByRecursion (λ v. v < n) vs →
       (weight added (entry counted no_steps n xs) a vs b).count ≤ 64 → Walks n xs a b (weight added (entry counted no_steps n xs) a vs b).count
   path_walks a b [] p q r h =
       let is = count a b p q in last (record { row = p; column = q; count = omega arith; some = h })

@@ -1,6 +1,6 @@
 -- A settled yes/no table says what can be reached.
 use Rattle.std.proofs.Common.{◌≡◌, ℕ, ◌*◌, ◌<◌, true, false, ◌&&◌, ◌||◌, List, [], ◌∷◌, length, sym, ◌∙◌, inl, inr}
-use Rattle.std.specs.List.{AllByRecursion as All}
+use Rattle.std.specs.List.{AllByRecursion}
 use Rattle.std.proofs.lemmas.Bool.{and_parts, and_from, or_right, both_ways}
 use Rattle.measures.specs.Paths.{entry, weight, Settled}
 use Rattle.measures.specs.Reach.{yes}
@@ -12,7 +12,7 @@ pub record YesPath (n : ℕ) (xs : List ℕ) (a b : ℕ) : Type 0 where
   pub between : List ℕ
   pub row : a < n
   pub column : b < n
-  pub within : All (λ v. v < n) between
+  pub within : AllByRecursion (λ v. v < n) between
   pub all_yes : weight ◌&&◌ (entry yes false n xs) a between b ≡ true
 
 module _ (n : ℕ) (xs : List ℕ) (square : length xs ≡ n * n) where
@@ -37,7 +37,7 @@ module _ (n : ℕ) (xs : List ℕ) (square : length xs ≡ n * n) where
         all_yes = and_from _ _ (flag a v s.row s.column ∙ s.is_yes) p.all_yes;
       }
 
-  path_leads : (a b : ℕ) (vs : List ℕ) → a < n → b < n → All (λ v. v < n) vs → weight ◌&&◌ (entry yes false n xs) a vs b ≡ true → Leads (Yes n xs) a b
+  path_leads : (a b : ℕ) (vs : List ℕ) → a < n → b < n → AllByRecursion (λ v. v < n) vs → weight ◌&&◌ (entry yes false n xs) a vs b ≡ true → Leads (Yes n xs) a b
   path_leads a b [] p q r e = last (record { row = p; column = q; is_yes = sym (flag a b p q) ∙ e })
   path_leads a b (v ∷ vs) p q r e =
       let parts = and_parts (entry yes false n xs a v) (weight ◌&&◌ (entry yes false n xs) v vs b) e in

@@ -1,6 +1,6 @@
 -- What a round of Floyd and Warshall's does to a table, from the laws.
 use Rattle.std.proofs.Common.{◌≡◌, ℕ, ◌+◌, ◌<◌, List, [], ◌∷◌, ◌++◌, sym, refl, ap, ◌∙◌, subst, inl, inr, arith}
-use Rattle.std.specs.List.{AllByRecursion as All}
+use Rattle.std.specs.List.{AllByRecursion}
 use Rattle.std.proofs.ByRecursion.{All-append}
 use Rattle.std.proofs.lemmas.Bool.{cases_lt}
 use Rattle.measures.specs.Laws.{Laws}
@@ -86,7 +86,7 @@ module _ {W : Type 0} {none here : W} {joined better : W → W → W} (laws : La
     pub step : Upto none joined better n (k + 1) e t'
     step = record { direct = step_direct; onward = step_onward; reached = step_reached }
 
-  finish_bound : (n : ℕ) (e t : ℕ → ℕ → W) → Upto none joined better n n e t → (a b : ℕ) (vs : List ℕ) → a < n → b < n → All (λ v. v < n) vs → Beats better (t a b) (weight joined e a vs b)
+  finish_bound : (n : ℕ) (e t : ℕ → ℕ → W) → Upto none joined better n n e t → (a b : ℕ) (vs : List ℕ) → a < n → b < n → AllByRecursion (λ v. v < n) vs → Beats better (t a b) (weight joined e a vs b)
   finish_bound n e t u a b [] p q r = u.direct a b p q
   finish_bound n e t u a b (v ∷ vs) p q r =
       beats_trans laws (u.onward a v b p r.0 q) (joined_right laws (e a v) (finish_bound n e t u v b vs r.0 q r.1))

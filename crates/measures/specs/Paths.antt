@@ -6,7 +6,7 @@
 --   Reached                     a measure is none, or some path has it
 --   Settled                     each entry of a table is the best over all paths of one step or more through another
 use Rattle.std.specs.Prelude.{◌≡◌, ℕ, ◌+◌, ◌*◌, ◌<◌, ◌⊎◌, List, [], ◌∷◌, map, slice_index_or}
-use Rattle.std.specs.List.{AllByRecursion as All}
+use Rattle.std.specs.List.{AllByRecursion}
 
 -- A table is kept row by row; past its end every entry is none.
 abbrev pub entry : {V W : Type 0} → (V → W) → W → ℕ → List V → ℕ → ℕ → W
@@ -22,9 +22,9 @@ Beats better x y = better x y ≡ x
 
 abbrev pub Reached : {W : Type 0} → W → (W → W → W) → ℕ → (ℕ → ℕ → W) → ℕ → ℕ → W → Type 0
 Reached none joined n t a b w =
-    (w ≡ none) ⊎ ((vs : List ℕ) × All (λ v. v < n) vs × (weight joined t a vs b ≡ w))
+    (w ≡ none) ⊎ ((vs : List ℕ) × AllByRecursion (λ v. v < n) vs × (weight joined t a vs b ≡ w))
 
 -- No path of t is better than the entry of t', and unless that is none some path has it.
 pub record Settled {W : Type 0} (none : W) (joined better : W → W → W) (n : ℕ) (t t' : ℕ → ℕ → W) : Type 0 where
-  pub bound : (a b : ℕ) (vs : List ℕ) → a < n → b < n → All (λ v. v < n) vs → Beats better (t' a b) (weight joined t a vs b)
+  pub bound : (a b : ℕ) (vs : List ℕ) → a < n → b < n → AllByRecursion (λ v. v < n) vs → Beats better (t' a b) (weight joined t a vs b)
   pub reached : (a b : ℕ) → a < n → b < n → Reached none joined n t a b (t' a b)

@@ -1,6 +1,6 @@
 -- The orders behind the placed items, counted item by item.
 use Rattle.std.proofs.Common.{◌≡◌, ℕ, zero, suc, ◌+◌, ◌-◌, ◌*◌, ◌<◌, ◌≤◌, List, [], ◌∷◌, ◌++◌, length, get_or, take, set, sym, refl, ap, ◌∙◌, subst, inl, inr, suc-mul, mul-le-mul, arith, length-append}
-use Rattle.std.specs.List.{AllByRecursion as All}
+use Rattle.std.specs.List.{AllByRecursion}
 use Rattle.std.proofs.ByRecursion.{All-append, All-weaker, All-from_get_or}
 use Rattle.std.proofs.lemmas.List.{get_or-take, get_or-set_same, length-take-le, take_all}
 use Rattle.std.proofs.lemmas.Bool.{cases_lt}
@@ -35,7 +35,7 @@ module _ (b : Precedence) (m : ℕ) (old : List ℕ) where
     pub front : take m out ≡ take m old
     pub tried : List ℕ
     pub apart : Distinct (tried ++ take m old)
-    pub small : All (λ x. x < item) tried
+    pub small : AllByRecursion (λ x. x < item) tried
     pub bound : total ≤ length tried * factorial (b.count - (m + 1))
 
 module _ (b : Precedence) (m : ℕ) (old : List ℕ) (less : m < b.count) (l : Lined b (take m old)) (long : b.count ≤ length old) where
@@ -50,7 +50,7 @@ module _ (b : Precedence) (m : ℕ) (old : List ℕ) (less : m < b.count) (l : L
   }
 
   -- The tried items and the placed ones are distinct items, so they are not too many.
-  room_for : (tried : List ℕ) → Distinct (tried ++ take m old) → All (λ x. x < b.count) tried → length tried + m ≤ b.count
+  room_for : (tried : List ℕ) → Distinct (tried ++ take m old) → AllByRecursion (λ x. x < b.count) tried → length tried + m ≤ b.count
   room_for tried apart small =
       let many = few b.count (tried ++ take m old) apart
       (All-append (λ x. x < b.count) tried (take m old) small (All-from_get_or (λ x. x < b.count) (take m old) 0 l.below)) in
@@ -73,7 +73,7 @@ module _ (b : Precedence) (m : ℕ) (old : List ℕ) (less : m < b.count) (l : L
         so_far.apart,
       )
 
-      small_more : All (λ x. x < item + 1) (item ∷ so_far.tried)
+      small_more : AllByRecursion (λ x. x < item + 1) (item ∷ so_far.tried)
       small_more = (omega arith, All-weaker (λ x. x < item) (λ x. x < item + 1) (λ x h. omega arith) so_far.tried so_far.small)
 
       module _ (r : ℕ) (few-here : r ≤ factorial (b.count - (m + 1))) where

@@ -1,6 +1,6 @@
 -- The orders of the places of the pushing events are the lawful push orders.
 use Rattle.std.proofs.Common.{◌≡◌, ℕ, suc, ◌<◌, List, [], ◌∷◌, length, get_or, sym, refl, ap, ◌∙◌, subst, inl, inr, arith}
-use Rattle.std.specs.List.{AllByRecursion as All}
+use Rattle.std.specs.List.{AllByRecursion}
 use Rattle.std.proofs.ByRecursion.{All-get_or}
 use Rattle.std.proofs.lemmas.List.{get_or-take, length-take-le}
 use Rattle.measures.specs.Walks.{Leads}
@@ -20,7 +20,7 @@ use Rattle.searching.specs.Searching.{LawfulOrder}
 use Rattle.searching.proofs.Picking.{length_picked, get_d_picked}
 
 -- The places at which the events of L stand in E.
-places : (E L : List ℕ) → ((a : ℕ) → Listed L a → Listed E a) → (q : List ℕ) × (All (λ x. x < length E) q × (picked E q ≡ L))
+places : (E L : List ℕ) → ((a : ℕ) → Listed L a → Listed E a) → (q : List ℕ) × (AllByRecursion (λ x. x < length E) q × (picked E q ≡ L))
 places E [] has = ([], (tt, refl))
 places E (a ∷ L) has =
     let at = has a (record { place = 0; within = omega arith; there = refl }) in
@@ -89,7 +89,7 @@ module _ (m : Meaning) (es : List Event) (E : List ℕ) (pushing : Pushing m es 
         let found = places E L (λ a h. pushing.order.all a (l.push_order.each a h)) in
         (found.0, (order found.0 found.1.0 found.1.1, found.1.1))
       where
-        order : (q : List ℕ) → All (λ x. x < length E) q → picked E q ≡ L → Order b q
+        order : (q : List ℕ) → AllByRecursion (λ x. x < length E) q → picked E q ≡ L → Order b q
         order q small is =
             let long : length q ≡ length L = sym (length_picked E q) ∙ ap length is in
             let whole : length q ≡ b.count = long ∙ same_length m es L E l.push_order pushing.order ∙ sym leading.count in
@@ -121,7 +121,7 @@ module _ (m : Meaning) (es : List Event) (E : List ℕ) (pushing : Pushing m es 
             }
 
   -- The events stand by rising number, so the order of the places is that of the events.
-  pub places_first : (q r : List ℕ) → All (λ x. x < length E) r → NotAfter q r → NotAfter (picked E q) (picked E r)
+  pub places_first : (q r : List ℕ) → AllByRecursion (λ x. x < length E) r → NotAfter q r → NotAfter (picked E q) (picked E r)
   places_first [] r small h = tt
   places_first (x ∷ q) [] small h = h
   places_first (x ∷ q) (y ∷ r) small h =

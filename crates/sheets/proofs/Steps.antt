@@ -1,6 +1,6 @@
 -- The steps of a sheet are well laid out exactly if none of them is faulty.
 use Rattle.std.proofs.Common.{◌≡◌, ℕ, ◌<◌, List, length, get_or, sym, ap, ◌∙◌, inl, inr, arith}
-use Rattle.std.specs.List.{flat_map, AllByRecursion as All}
+use Rattle.std.specs.List.{flat_map, AllByRecursion}
 use Rattle.std.proofs.ByRecursion.{All-get_or, All-from_get_or}
 use Rattle.std.proofs.lemmas.List.{get_or-map, length-map, ext_get_or}
 use Rattle.std.proofs.lemmas.Bool.{cases_lt, cases_eq}
@@ -42,7 +42,7 @@ module _ (present : ℕ) (v : Verdict) (ts : List Step) where
       ∙ ap (λ n. get_or (froms ts) (next n k) 0) size
       ∙ sym (starts (next (length ts) k) (next_below (length ts) k h))
 
-  pub not_faulty : All (WellNamed present v) ts → tos ts ≡ turned (froms ts) → Distinct (froms ts) →
+  pub not_faulty : AllByRecursion (WellNamed present v) ts → tos ts ≡ turned (froms ts) → Distinct (froms ts) →
       (k : ℕ) → k < length ts → Fault present v (length ts) bytes k → ⊥
   not_faulty named closed once k h fault =
       let t = get_or ts k none in
@@ -85,7 +85,7 @@ module _ (present : ℕ) (v : Verdict) (ts : List Step) where
           ];
         }
 
-    pub named_all : All (WellNamed present v) ts
+    pub named_all : AllByRecursion (WellNamed present v) ts
     named_all = All-from_get_or (WellNamed present v) ts none named_at
 
     pub closed_chain : tos ts ≡ turned (froms ts)

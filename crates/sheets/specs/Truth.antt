@@ -9,7 +9,7 @@
 --                        reads-from; or, where the graph is ordered, a closed chain of coherence; or no steps, as there is no such chain
 --   TrueOf m es s        the sheet s is true of the graph: its list is a push order, under which its steps show its verdict
 use Rattle.std.specs.Prelude.{◌≡◌, ℕ, ◌<◌, List, [], length}
-use Rattle.std.specs.List.{AllByRecursion as All}
+use Rattle.std.specs.List.{AllByRecursion}
 use Rattle.cycles.specs.Cycles.{Distinct}
 use Rattle.graph.specs.declared.event.Event.{Event}
 use Rattle.profiles.specs.Meaning.{Meaning}
@@ -29,7 +29,7 @@ pub record Sound (m : Meaning) (es : List Event) (L : List ℕ) (v : Verdict) (t
 
 pub record Chain (m : Meaning) (es : List Event) (L : List ℕ) (v : Verdict) (ts : List Step) : Type 0 where
   pub some : 0 < length ts
-  pub sound : All (Sound m es L v) ts
+  pub sound : AllByRecursion (Sound m es L v) ts
   pub closed : tos ts ≡ turned (froms ts)
   pub once : Distinct (froms ts)
 

@@ -7,7 +7,7 @@
 --   Told present bs l        bs are the bytes of one sheet alone, which is well laid out and which l tells
 --   Layouts present bs r     what reading a layout answers: the sheet, or that bs are the bytes of no such sheet
 use Rattle.std.specs.Prelude.{◌≡◌, ℕ, ◌<◌, List, [], ◌∷◌, ◌++◌, map, length, Result, MatchResult}
-use Rattle.std.specs.List.{flat_map, AllByRecursion as All}
+use Rattle.std.specs.List.{flat_map, AllByRecursion}
 use Rattle.cycles.specs.Cycles.{Distinct}
 use Rattle.graph.specs.declared.refusal.Refused.{Refused}
 use Rattle.sheets.specs.declared.layout.Layout.{Layout}
@@ -38,7 +38,7 @@ turned (x ∷ xs) = xs ++ x ∷ []
 
 pub record WellLaid (present : ℕ) (s : Sheet) : Type 0 where
   pub counted : RightCount s.verdict (length s.steps)
-  pub named : All (WellNamed present s.verdict) s.steps
+  pub named : AllByRecursion (WellNamed present s.verdict) s.steps
   -- each step leads where the next starts, and the last where the first does
   pub closed : tos s.steps ≡ turned (froms s.steps)
   pub once : Distinct (froms s.steps)
