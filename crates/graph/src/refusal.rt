@@ -96,7 +96,7 @@ impl From<Refusal> for Refused {
     }
 }
 
-// Written out, since a derived `==` on so many variants ensures nothing.
+// Written out, so that its contract says in one clause that two refusals are equal exactly if they are one.
 impl PartialEq for Refusal {
     ghost eq = { λ x y. «number_of_lem» x == «number_of_lem» y };
 

@@ -2,7 +2,7 @@
 ghost use Rattle.std.specs.Prelude.{◌≡◌, ℕ, ◌+◌, ◌*◌, ◌<◌, ◌≤◌, length, Decides, MatchOption};
 ghost use Rattle.sheets.specs.Entries.{from as «from_byte», next};
 ghost use Rattle.sheets.specs.Faults.{ReaderAt, Fault, FirstFault};
-ghost use Rattle.sheets.specs.Steps.{readers as «readers-of»};
+ghost use Rattle.sheets.specs.Steps.{readers as «readers_of»};
 
 use crate::layout::step_at;
 use crate::step::{NO_READER, STEP_SIZE, Step};
@@ -59,7 +59,7 @@ fn place_behind(place: usize, count: usize) -> usize
 
 // Are the readers that the rule names present, and the others 255?
 fn has_its_readers(step: Step, present: u8) -> bool
-    ensures { Decides result (ReaderAt present («readers-of» step.rule) 0 step.reader × ReaderAt present («readers-of» step.rule) 1 step.second) }
+    ensures { Decides result (ReaderAt present («readers_of» step.rule) 0 step.reader × ReaderAt present («readers_of» step.rule) 1 step.second) }
 {
     let named = step.readers();
     let first = if named > 0 {

@@ -1,4 +1,4 @@
-use Rattle.std.proofs.Common.{arith}
+use Rattle.std.proofs.Common.{ap, ◌∙◌, arith}
 use Rattle.measures.proofs.Rows.{row_write}
 use Rattle.measures.proofs.settling.relax.Goals as goal
 
@@ -18,4 +18,4 @@ loop-j-preserved g c =
     c.index-cells-place.is
     c.index-cells-place-in-loop-j.is
     c.index-cells-at.is
-    (rw c.join.ensures at c.choose.ensures)
+    (c.choose.ensures ∙ ap (m.better (m.means c.index-cells-at.result)) c.join.ensures)

@@ -14,7 +14,7 @@ slice_bounds-table-end c =
 pub overflow_cast-result : goal.overflow_cast-result
 overflow_cast-result c =
     let n = length c.args.self.now.events.now + 8 in
-    let wrote = subst (CycleOrNone (Yes n c.draw_coherence.new.cells) c.args.cycle.now c.shortest_cycle.new.cycle) c.in-Some.is c.in_ok-count.ensures.1 in
+    let wrote = subst (CycleOrNone (Yes n _) c.args.cycle.now c.shortest_cycle.new.cycle) c.in-Some.is c.in_ok-count.ensures.1 in
     let few : c.in-Some.count ≤ 64 = wrote.room in
     search rules
 
