@@ -4,7 +4,8 @@
 usage: python3 tools/snake_names.py [--dry]        at the top, once, after the kit's own script
 
 A dash stays where a fact's name stands in front or behind, as in `All-weaker`, and in the names that the check makes
-(`loop-i-preserved`, `returns-in-Some`). It prints each name that changes, and stops where two names would fall together.
+(`loop-i-preserved`, `returns-in-Some`). It prints each name that changes, and marks those whose new spelling is a word of the
+repository already: look at each of these.
 """
 
 import os
