@@ -1,5 +1,5 @@
 -- The marked events are collected by rising number, at the front of a buffer.
-use Rattle.std.proofs.Common.{◌≡◌, ℕ, ◌+◌, ◌<◌, ◌≤◌, Bool, false, List, ◌++◌, length, get_or, take, drop, set, sym, refl, ap, ◌∙◌, subst, inl, inr, arith, length-set, below_more}
+use Rattle.std.proofs.Common.{◌≡◌, ℕ, ◌+◌, ◌<◌, ◌≤◌, Bool, false, List, ◌++◌, length, get_or, take, drop, set, sym, ap, ◌∙◌, subst, inl, inr, arith, length-set, below_more}
 use Rattle.std.proofs.lemmas.List.{get_or_past, get_or-set_same, get_or-set_other, get_or-take, length-take-le, take-append-drop, drop-drop, drop-set-lt}
 use Rattle.std.proofs.lemmas.Bool.{both_ways, cases_lt}
 use Rattle.axioms.specs.PushOrders.{Marked, Lists, Increasing, Front}
@@ -12,16 +12,6 @@ pub record CollectedTo (F : List Bool) (a : ℕ) (old new : List ℕ) (k : ℕ) 
   pub all : (x : ℕ) → x < a → Marked F x → (i : ℕ) × (i < k) × (get_or new i 0 ≡ x)
   pub increasing : (i j : ℕ) → i < j → j < k → get_or new i 0 < get_or new j 0
   pub rest : drop k new ≡ drop k old
-
-pub collected_none : {F : List Bool} {old : List ℕ} → length old ≡ 64 → CollectedTo F 0 old old 0
-collected_none long = record {
-  few = omega arith;
-  long = long;
-  each = λ i h. absurd (omega arith);
-  all = λ x h. absurd (omega arith);
-  increasing = λ i j l h. absurd (omega arith);
-  rest = refl;
-}
 
 module _ (F : List Bool) (a : ℕ) (old new : List ℕ) (k : ℕ) (so_far : CollectedTo F a old new k) where
   pub collected_skip : get_or F a false ≡ false → CollectedTo F (a + 1) old new k

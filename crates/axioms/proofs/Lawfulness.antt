@@ -1,6 +1,8 @@
 -- A list in which no event stands twice is lawful exactly if no event reaches one that stands earlier.
-use Rattle.std.proofs.Common.{◌≡◌, ℕ, ◌<◌, true, false, List, length, get_or, Decides, sym, refl, ap, ◌∙◌, subst, inl, inr, arith}
+use Rattle.std.proofs.Common.{◌≡◌, ℕ, ◌<◌, ◌≤◌, Bool, true, false, List, length, get_or, take, Decides, sym, refl, ap, ◌∙◌, subst, inl, inr, arith}
 use Rattle.std.proofs.lemmas.Bool.{cases_order}
+use Rattle.std.proofs.lemmas.Bool.Decides.{Decides-like}
+use Rattle.std.proofs.lemmas.List.{get_or-take, length-take-le}
 use Rattle.measures.specs.Walks.{Leads}
 use Rattle.graph.specs.declared.event.Event.{Event}
 use Rattle.axioms.specs.Orders.{Once}
@@ -45,3 +47,12 @@ module _ (es : List Event) (L : List ℕ) (once : Once L) where
     ],
     λ _. refl,
   )
+
+-- One of the events before a place is one of the list's front.
+pub front_told : (P : ℕ → Type 0) (L : List ℕ) (k j : ℕ) → k ≡ j → j ≤ length L → (r : Bool) →
+    Decides r ((i : ℕ) × (i < length (take k L)) × P (get_or (take k L) i 0)) → Decides r ((i : ℕ) × (i < j) × P (get_or L i 0))
+front_told P L k j is within r =
+    let long = length-take-le k L (omega arith) in
+    Decides-like r
+    (λ h. let low : h.0 < k = omega (arith, h.1) in (h.0, omega (arith, h.1), subst P (get_or-take k L h.0 0 low) h.2))
+    (λ h. let low : h.0 < k = omega (arith, h.1) in (h.0, omega (arith, h.1), subst P (sym (get_or-take k L h.0 0 low)) h.2))

@@ -1,8 +1,10 @@
+pub mod Any
 pub mod Asking
 pub mod Collecting
 pub mod Drawing
 pub mod Entries
 pub mod Fronts
+pub mod Joining
 pub mod Lawfulness
 pub mod Pushing
 pub mod SameLength

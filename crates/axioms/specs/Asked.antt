@@ -2,10 +2,8 @@
 --
 --   Asked m es p     the tables p tell the kept and the pushed pairs of a profile that means m, among the added events
 --                    es and the initial writes
---   TooMany es why   a refusal, since es are more than 56 events
-use Rattle.std.specs.Prelude.{◌≡◌, ◌+◌, ◌<◌, List, length}
-use Rattle.measures.specs.declared.settling.Refusal.{Refusal}
-use Rattle.measures.specs.declared.settling.Refusal.TheVariants.{NotSquare}
+--   AskedOf p P      P holds of every m and es that the tables p tell so
+use Rattle.std.specs.Prelude.{◌≡◌, ◌+◌, List, length}
 use Rattle.graph.specs.declared.event.Event.{Event}
 use Rattle.profiles.specs.Meaning.{Meaning}
 use Rattle.profiles.specs.Laws.{Lawful}
@@ -15,10 +13,9 @@ use Rattle.axioms.specs.declared.pairs.Pairs.{Pairs}
 
 pub record Asked (m : Meaning) (es : List Event) (p : Pairs) : Type 0 where
   pub lawful : Lawful m
-  pub side : p.side ≡ length es + 8
-  pub kept : Drawn (Kept m es) p.side p.kept
-  pub pushed : Drawn (Pushed m es) p.side p.pushed
+  pub side : p.kept.side ≡ length es + 8
+  pub kept : Drawn (Kept m es) p.kept.side p.kept.cells
+  pub pushed : Drawn (Pushed m es) p.pushed.side p.pushed.cells
 
-pub record TooMany (es : List Event) (why : Refusal) : Type 0 where
-  pub refusal : why ≡ NotSquare
-  pub many : 56 < length es
+abbrev pub AskedOf : Pairs → (Meaning → List Event → Type 0) → Type 0
+AskedOf p P = (m : Meaning) (es : List Event) → Asked m es p → P m es

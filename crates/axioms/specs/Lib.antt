@@ -1,4 +1,5 @@
 pub mod Asked
+pub mod EventTables
 pub mod Orders
 pub mod Permitted
 pub mod PushOrders

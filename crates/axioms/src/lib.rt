@@ -9,3 +9,4 @@ pub mod rule;
 pub mod source_cycle;
 pub mod source_reach;
 pub mod source_steps;
+pub mod table;

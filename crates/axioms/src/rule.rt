@@ -1,12 +1,18 @@
 // The rules by which a step of a cycle holds.
-ghost use Rattle.std.specs.Prelude.{◌≡◌, ℕ, MatchOption, ◌≢◌};
-ghost use Rattle.axioms.specs.Rules.{number as «number_of_lem», is_coherence};
-ghost use Rattle.axioms.specs.declared.rule.Rule.{Rule};
+ghost use Rattle.std.specs.Prelude.{◌≡◌};
+ghost use Rattle.axioms.specs.Rules.{number as «number_of_lem», is_coherence, Numbered};
+
+use std::error::Error;
+use std::fmt;
+
+// A number and no `Option`: a sheet has a byte for each reader.
+/// What stands for a reader that a rule does not name.
+pub const NO_READER: u8 = 255;
 
 /// A step of a source cycle holds by the first two rules, a step of a coherence cycle by the others.
 #[derive(Clone, Copy, PartialEq, Eq, Debug)]
 pub enum Rule {
-    ProgramOrder,
+    ProgramOrder = 1,
     ReadsFrom,
     Coww,
     Cowr,
@@ -19,29 +25,7 @@ impl Rule {
     pub fn number(self) -> u8
         ensures { result ≡ «number_of_lem» self }
     {
-        match self {
-            Rule::ProgramOrder => 1,
-            Rule::ReadsFrom => 2,
-            Rule::Coww => 3,
-            Rule::Cowr => 4,
-            Rule::Corw => 5,
-            Rule::Corr => 6,
-        }
-    }
-
-    /// The rule of a number, where it has one.
-    pub fn from_number(number: u8) -> Option<Rule>
-        ensures { MatchOption result ((x : Rule) → «number_of_lem» x ≢ number) (λ x. «number_of_lem» x ≡ number) }
-    {
-        match number {
-            1 => Some(Rule::ProgramOrder),
-            2 => Some(Rule::ReadsFrom),
-            3 => Some(Rule::Coww),
-            4 => Some(Rule::Cowr),
-            5 => Some(Rule::Corw),
-            6 => Some(Rule::Corr),
-            _ => None,
-        }
+        self as u8
     }
 
     /// Is it a rule of coherence?
@@ -54,3 +38,34 @@ impl Rule {
         }
     }
 }
+
+/// A number that no rule has.
+#[derive(Clone, Copy, PartialEq, Eq, Debug)]
+pub struct UnknownRule(pub u8);
+
+/// The rule of a number: 1 to 6.
+impl TryFrom<u8> for Rule {
+    type Error = UnknownRule;
+
+    ghost try_from_gives = { Numbered };
+
+    fn try_from(number: u8) -> Result<Rule, UnknownRule> {
+        match number {
+            1 => Ok(Rule::ProgramOrder),
+            2 => Ok(Rule::ReadsFrom),
+            3 => Ok(Rule::Coww),
+            4 => Ok(Rule::Cowr),
+            5 => Ok(Rule::Corw),
+            6 => Ok(Rule::Corr),
+            _ => Err(UnknownRule(number)),
+        }
+    }
+}
+
+impl fmt::Display for UnknownRule {
+    fn fmt<W: fmt::Write>(&self, f: &mut fmt::Formatter<W>) -> fmt::Result {
+        write!(f, "no rule has the number {}", self.0)
+    }
+}
+
+impl Error for UnknownRule {}

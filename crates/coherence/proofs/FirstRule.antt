@@ -1,22 +1,20 @@
 -- The first rule that holds, with the lowest readers.
-use Rattle.std.proofs.Common.{◌≡◌, ℕ, ◌+◌, ◌<◌, ◌≤◌, Bool, true, false, ◌⊎◌, List, length, IfSome, Some, None, Decides, Option, sym, refl, subst, inl, inr, arith, lit≤, below_more, MatchOption}
-use Rattle.std.proofs.lemmas.Bool.{cases_lt, cases_order, both_ways, false≢true}
+use Rattle.std.proofs.Common.{◌≡◌, ℕ, ◌+◌, ◌<◌, ◌≤◌, true, ◌⊎◌, List, length, IfSome, Some, None, Option, sym, refl, subst, inl, inr, arith, lit≤, below_more, MatchOption}
+use Rattle.std.proofs.lemmas.Bool.{cases_lt, cases_order, false≢true}
 use Rattle.graph.specs.declared.event.Event.{Event}
 use Rattle.profiles.specs.Meaning.{Meaning}
-use Rattle.coherence.specs.Naming.{NotLater, Named, FirstNamed, LowestPair}
+use Rattle.coherence.specs.Naming.{NotLater, Named, FirstNamed, Lowest, LowestPair}
 use Rattle.axioms.specs.Relations.{Holds, Co}
 use Rattle.axioms.specs.Rules.{number, is_coherence, Unused}
 use Rattle.coherence.specs.declared.naming.NamedStep.{NamedStep}
 use Rattle.axioms.specs.declared.rule.Rule.{Rule}
 use Rattle.axioms.specs.declared.rule.Rule.TheVariants.{ProgramOrder, ReadsFrom, Coww, Cowr, Corw, Corr}
 
--- The numbers below k are passed, and k is tried.
-module _ (P : ℕ → Type 0) (k : ℕ) (here : Bool) (below : (x : ℕ) → x < k → P x → ⊥) where
-  pub none_more : here ≡ false → Decides here (P k) → (x : ℕ) → x < k + 1 → P x → ⊥
-  none_more fails told = below_more (λ x. P x → ⊥) k below (λ h. both_ways here fails (told.1 h))
-
-  pub lowest_found : here ≡ true → Decides here (P k) → P k × ((y : ℕ) → P y → k ≤ y)
-  lowest_found holds told = (told.0 holds, λ y h. elim (cases_lt y k) [ inl l ↦ absurd (below y l h) | inr l ↦ l ])
+-- The first number that `find` meets below n is the lowest.
+pub lowest_below : (P : ℕ → Type 0) (k n : ℕ) → k ≡ n → (o : Option ℕ) →
+    MatchOption o ((x : ℕ) → 0 ≤ x → x < k → P x → ⊥) (λ i. (0 ≤ i) × (i < k) × P i × ((x : ℕ) → 0 ≤ x → x < i → P x → ⊥)) → Lowest n P o
+lowest_below P k n is (Some i) h = (h.2, λ y p. elim (cases_lt y i) [ inl l ↦ absurd (h.3 y (omega arith) l p) | inr l ↦ l ])
+lowest_below P k n is None h = λ x l. h x (omega arith) (omega arith)
 
 module _ (m : Meaning) (es : List Event) (L : List ℕ) (p q : ℕ) where
   -- The readers of corr below k are passed, and k is tried with each second reader.

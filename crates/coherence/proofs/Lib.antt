@@ -1,9 +1,9 @@
+pub mod AskedVisibility
 pub mod CoherenceCycles
 pub mod Cohering
 pub mod Drawable
 pub mod FirstRule
 pub mod Sighting
 pub mod VisibilityPushes
-pub mod VisibilityRows
 pub mod VisibilitySources
 pub mod VisibilityTable

@@ -1,11 +1,15 @@
 -- Push steps, added from the last listed event to the first.
-use Rattle.std.proofs.Common.{◌≡◌, ℕ, ◌+◌, ◌*◌, ◌<◌, ◌≤◌, true, ◌||◌, ◌⊎◌, List, length, get_or, replicate, Decides, sym, refl, ap, ◌∙◌, subst, inl, inr, mul-le-mul_right, add-mul, one-mul, zero-add, arith}
-use Rattle.std.proofs.lemmas.List.{get_or-replicate}
+use Rattle.std.proofs.Common.{◌≡◌, ℕ, ◌+◌, ◌*◌, ◌<◌, ◌≤◌, true, ◌||◌, ◌⊎◌, List, [], ◌∷◌, ◌++◌, length, get_or, take, drop, replicate, Decides, sym, refl, ap, ◌∙◌, subst, inl, inr, length-append, arith}
+use Rattle.std.proofs.Math.Seq.{get_or-append_seam}
+use Rattle.std.proofs.lemmas.List.{get_or-replicate, get_or_append_left, get_or-take, get_or-drop}
 use Rattle.std.proofs.lemmas.Bool.{cases_lt, cases_order, false≢true}
 use Rattle.std.proofs.lemmas.Bool.Decides.{Decides-at, Decides-like, Decides-or}
 use Rattle.measures.specs.Reach.{yes}
 use Rattle.measures.specs.Walks.{at, Yes}
-use Rattle.coherence.specs.Visibility.{RowJoined, Gained, PushedLater}
+use Rattle.axioms.specs.declared.table.EventTable.{EventTable}
+use Rattle.axioms.specs.EventTables.{Joined}
+use Rattle.axioms.specs.Tables.{CellsJoined}
+use Rattle.coherence.specs.Visibility.{Gained, PushedLater}
 
 -- An event that stands at the place k of L or later is pushed to c.
 pub record LaterFrom (n : ℕ) (xs L : List ℕ) (k c : ℕ) : Type 0 where
@@ -26,18 +30,34 @@ pub record PushedFrom (n : ℕ) (pushed L : List ℕ) (k : ℕ) (xs ys row : Lis
   pub later : (c : ℕ) → c < n → Decides (yes (get_or row c 0)) (LaterFrom n pushed L k c)
   pub steps : Gained n (StepFrom n pushed L k) xs ys
 
--- A row of a table ends where the next begins.
-row_before : (a b e n : ℕ) → a < e → b < n → a * n + b < e * n
-row_before a b e n h q =
-    let next : a + 1 ≤ e = omega arith in omega (arith, mul-le-mul_right n next, add-mul a 1 n, one-mul n)
+-- What is left of a list that is gone through from the back.
+pub record FrontOf (L rest : List ℕ) : Type 0 where
+  pub few : length rest ≤ length L
+  pub same : (k : ℕ) → k < length rest → get_or rest k 0 ≡ get_or L k 0
 
-row_behind : (a b e n : ℕ) → e < a → e * n + n ≤ a * n + b
-row_behind a b e n h =
-    let next : e + 1 ≤ a = omega arith in omega (arith, mul-le-mul_right n next, add-mul e 1 n, one-mul n)
+pub record BackOf (L rest shorter : List ℕ) (x : ℕ) : Type 0 where
+  pub front : FrontOf L shorter
+  pub long : length rest ≡ length shorter + 1
+  pub within : length shorter < length L
+  pub there : get_or L (length shorter) 0 ≡ x
 
--- A row lies in its table.
-pub row_within : (e n : ℕ) → e < n → e * n + n ≤ n * n
-row_within e n h = let next : e + 1 ≤ n = omega arith in omega (arith, mul-le-mul_right n next, add-mul e 1 n, one-mul n)
+pub back_of : (L rest shorter : List ℕ) (x : ℕ) → rest ≡ shorter ++ x ∷ [] → FrontOf L rest → BackOf L rest shorter x
+back_of L rest shorter x is front =
+    let long : length rest ≡ length shorter + 1 = ap length is ∙ length-append shorter (x ∷ []) in
+    record {
+      front = record {
+        few = omega (arith, front.few);
+        same = λ k h.
+            sym (ap (λ l. get_or l k 0) is ∙ get_or_append_left shorter (x ∷ []) 0 k h) ∙ front.same k (omega arith);
+      };
+      long = long;
+      within = omega (arith, front.few);
+      there = sym (front.same (length shorter) (omega arith)) ∙ ap (λ l. get_or l (length shorter) 0) is ∙ get_or-append_seam shorter x [] 0;
+    }
+
+-- A row of a table, cut out of its cells.
+pub row_read : (n : ℕ) (xs : List ℕ) (e k c : ℕ) → k ≡ n → c < n → get_or (take k (drop (e * n) xs)) c 0 ≡ at n xs e c
+row_read n xs e k c is h = get_or-take k (drop (e * n) xs) c 0 (omega arith) ∙ get_or-drop (e * n) xs c 0
 
 module _ (n : ℕ) (pushed L : List ℕ) where
   pub pushed_none : (k : ℕ) (xs : List ℕ) → n ≤ 64 → length L ≤ k → PushedFrom n pushed L k xs xs (replicate 64 0)
@@ -102,8 +122,9 @@ module _ (n : ℕ) (pushed L : List ℕ) where
 
       -- Its row gains what later events push to, and that gains what it pushes to itself.
       module _ (e : ℕ) (is : get_or L k 0 ≡ e) (en : e < n) (zs wider : List ℕ)
-          (joined : RowJoined n (e * n) 0 row ys zs)
-          (widened : RowJoined n 0 (e * n) pushed row wider)
+          (joined : (b : ℕ) → b < n → yes (at n zs e b) ≡ (yes (at n ys e b) || yes (get_or row b 0)))
+          (others : (a b : ℕ) → a < n → b < n → (a ≡ e → ⊥) → at n zs a b ≡ at n ys a b)
+          (widened : (c : ℕ) → c < n → yes (get_or wider c 0) ≡ (yes (get_or row c 0) || yes (at n pushed e c)))
         where
           its_pushes : (c : ℕ) → c < n → Decides (yes (at n pushed e c)) (Yes n pushed (get_or L k 0) c)
           its_pushes c q = (
@@ -114,7 +135,7 @@ module _ (n : ℕ) (pushed L : List ℕ) where
           later_now : (c : ℕ) → c < n → Decides (yes (get_or wider c 0)) (LaterFrom n pushed L k c)
           later_now c q =
               Decides-like (yes (get_or wider c 0)) (later_join c) (later_split c)
-              (Decides-at (yes (get_or wider c 0)) (yes (get_or row c 0) || yes (at n pushed e c)) (simp zero-add at (widened.inside c q))
+              (Decides-at (yes (get_or wider c 0)) (yes (get_or row c 0) || yes (at n pushed e c)) (widened c q)
               (Decides-or (yes (get_or row c 0)) (yes (at n pushed e c)) (so_far.later c q) (its_pushes c q)))
 
           row_now : (b : ℕ) → b < n → Decides (yes (at n zs e b)) ((yes (at n xs e b) ≡ true) ⊎ StepFrom n pushed L k e b)
@@ -128,7 +149,7 @@ module _ (n : ℕ) (pushed L : List ℕ) where
                 | inl old ↦ inl (inl old)
                 | inr t ↦ elim (step_split e b t) [ inl u ↦ inl (inr u) | inr u ↦ inr u.1 ]
               ])
-              (Decides-at (yes (at n zs e b)) (yes (at n ys e b) || yes (get_or row b 0)) (simp zero-add at (joined.inside b q))
+              (Decides-at (yes (at n zs e b)) (yes (at n ys e b) || yes (get_or row b 0)) (joined b q)
               (Decides-or (yes (at n ys e b)) (yes (get_or row b 0)) (so_far.steps e b en q) (so_far.later b q)))
 
           rest_now : (a b : ℕ) → a < n → b < n → (a ≡ e → ⊥) → at n zs a b ≡ at n ys a b → Decides (yes (at n zs a b)) ((yes (at n xs a b) ≡ true) ⊎ StepFrom n pushed L k a b)
@@ -148,11 +169,21 @@ module _ (n : ℕ) (pushed L : List ℕ) where
                 elim (cases_order a e) [
                   | inl same ↦ subst (λ d. Decides (yes (at n zs d b)) ((yes (at n xs d b) ≡ true) ⊎ StepFrom n pushed L k d b)) (sym same) (row_now b q)
                   | inr way ↦ elim way [
-                    | inl l ↦ rest_now a b p q (λ s. omega arith) (joined.before (a * n + b) (row_before a b e n l q))
-                    | inr l ↦ rest_now a b p q (λ s. omega arith) (joined.behind (a * n + b) (row_behind a b e n l))
+                    | inl l ↦ let apart : a ≡ e → ⊥ = λ s. omega arith in rest_now a b p q apart (others a b p q apart)
+                    | inr l ↦ let apart : a ≡ e → ⊥ = λ s. omega arith in rest_now a b p q apart (others a b p q apart)
                   ]
                 ];
           }
+
+  -- The same of a table whose row was joined.
+  pub pushed_joined : (k : ℕ) → k < length L → (xs row wider : List ℕ) (t u : EventTable) → t.side ≡ n → PushedFrom n pushed L (k + 1) xs t.cells row →
+      (e : ℕ) → get_or L k 0 ≡ e → e < n → Joined t u e row → (cut : List ℕ) → ((c : ℕ) → c < n → get_or cut c 0 ≡ at n pushed e c) → n ≤ length row → CellsJoined cut row wider →
+      PushedFrom n pushed L k xs u.cells wider
+  pushed_joined k within xs row wider t u side so_far e is en joined cut reads long widened =
+      pushed_more k within xs t.cells row so_far e is en u.cells wider
+      (λ b q. subst (λ m. yes (at m u.cells e b) ≡ (yes (at m t.cells e b) || yes (get_or row b 0))) side (joined.row b (omega arith) (omega arith)))
+      (λ a b p q apart. subst (λ m. at m u.cells a b ≡ at m t.cells a b) side (joined.elsewhere a b (omega arith) (omega arith) apart))
+      (λ c q. widened c (omega arith) ∙ ap (λ x. yes (get_or row c 0) || yes x) (reads c q))
 
   step_listed : (a c : ℕ) → StepFrom n pushed L 0 a c → PushedLater n pushed L a c
   step_listed a c s = let f = s.later.from in record {

@@ -1,23 +1,19 @@
 -- The steps of reads-from, added read by read.
-use Rattle.std.proofs.Common.{◌≡◌, ℕ, ◌+◌, ◌-◌, ◌*◌, ◌<◌, ◌≤◌, List, length, get_or, set, Some, Option, sym, refl, ap, ◌∙◌, subst, inl, inr, arith}
-use Rattle.std.proofs.lemmas.List.{get_or-set_same, get_or-set_other}
+use Rattle.std.proofs.Common.{◌≡◌, ℕ, ◌+◌, ◌-◌, ◌<◌, true, ◌⊎◌, ◌≢◌, List, length, get_or, Some, sym, refl, ap, ◌∙◌, subst, inl, inr, arith}
 use Rattle.std.proofs.lemmas.Bool.{cases_lt, cases_eq, cond-false, le-ltb}
 use Rattle.std.proofs.lemmas.Bool.Decides.{Decides-like, Decides-at}
 use Rattle.measures.specs.Reach.{yes}
 use Rattle.measures.specs.Walks.{at}
-use Rattle.measures.proofs.Tables.{place_in, place_other}
 use Rattle.graph.specs.declared.event.Event.{Event}
 use Rattle.graph.specs.Events.{event, absent, initial_write}
 use Rattle.graph.specs.Order.{Rf, Names}
+use Rattle.axioms.specs.declared.table.EventTable.{EventTable}
+use Rattle.axioms.specs.EventTables.{CellSet}
 use Rattle.coherence.specs.Visibility.{Gained}
 
 -- The steps to the first i added events.
 abbrev pub RfBelow : List Event → ℕ → ℕ → ℕ → Type 0
 RfBelow es i a b = Rf es a b × (b < i + 8)
-
--- A source past the table is none of its rows.
-pub names_past : (s n : ℕ) (o : Option ℕ) → o ≡ Some s → n ≤ s → (w : ℕ) → w < n → Names o w → ⊥
-names_past s n o is past w below names = let same : s ≡ w = subst (λ x. Names x w) is names in omega arith
 
 module _ (es : List Event) where
   pub sourced_none : (xs : List ℕ) → Gained (length es + 8) (RfBelow es 0) xs xs
@@ -41,7 +37,7 @@ module _ (es : List Event) where
     wider a b t = let h = t.1 in (t.0, omega arith)
 
     -- The event after the first i takes its value from no event of the graph.
-    pub sourced_skip : ((w : ℕ) → w < length es + 8 → Names (get_or es i absent).source w → ⊥) → Gained (length es + 8) (RfBelow es (i + 1)) xs ys
+    pub sourced_skip : ((w : ℕ) → Names (get_or es i absent).source w → ⊥) → Gained (length es + 8) (RfBelow es (i + 1)) xs ys
     sourced_skip none a b p q =
         Decides-like (yes (at (length es + 8) ys a b))
         (λ s. elim s [ inl e ↦ inl e | inr t ↦ inr (wider a b t) ])
@@ -52,56 +48,51 @@ module _ (es : List Event) where
             | inr l ↦
                 let h = t.1 in
                 let same : b ≡ i + 8 = omega arith in
-                absurd (none a p (subst (λ s. Names s a) its_source (subst (λ d. Names (event es d).source a) same t.0.source)))
+                absurd (none a (subst (λ s. Names s a) its_source (subst (λ d. Names (event es d).source a) same t.0.source)))
           ]
         ])
         (so_far a b p q)
 
-    -- It takes its value from w.
-    module _ (w : ℕ) (wn : w < length es + 8) (is : (get_or es i absent).source ≡ Some w) (k : ℕ) (place : k ≡ w * (length es + 8) + (i + 8)) (square : length ys ≡ (length es + 8) * (length es + 8)) where
-      n : ℕ
-      n = length es + 8
+    -- It takes its value from w, and the table zs says that.
+    module _ (w : ℕ) (is : (get_or es i absent).source ≡ Some w) (zs : List ℕ)
+        (here : w < length es + 8 → yes (at (length es + 8) zs w (i + 8)) ≡ true)
+        (elsewhere : (a b : ℕ) → a < length es + 8 → b < length es + 8 → (a ≢ w) ⊎ (b ≢ i + 8) → at (length es + 8) zs a b ≡ at (length es + 8) ys a b)
+      where
+        source_is : (event es (i + 8)).source ≡ Some w
+        source_is = its_source ∙ is
 
-      source_is : (event es (i + 8)).source ≡ Some w
-      source_is = its_source ∙ is
+        its_step : Rf es w (i + 8)
+        its_step = record { added = (omega arith, omega arith); source = subst (λ s. Names s w) (sym source_is) refl }
 
-      here : Rf es w (i + 8)
-      here = record { added = (omega arith, omega arith); source = subst (λ s. Names s w) (sym source_is) refl }
+        only : (a : ℕ) → Rf es a (i + 8) → w ≡ a
+        only a r = subst (λ s. Names s a) source_is r.source
 
-      only : (a : ℕ) → Rf es a (i + 8) → w ≡ a
-      only a r = subst (λ s. Names s a) source_is r.source
-
-      -- the entry that was written
-      now : (a b : ℕ) → w ≡ a → i + 8 ≡ b → at n (set ys k 1) a b ≡ 1
-      unfolding n
-      now a b row column =
-          let same : a * n + b ≡ k = sym (place ∙ ap (λ x. x * n + (i + 8)) row ∙ ap (λ x. a * n + x) column) in
-          ap (λ x. get_or (set ys k 1) x 0) same ∙ get_or-set_same ys k 1 0 (rw (square, place) (place_in wn (omega arith)))
-
-      other : (a b : ℕ) → b < n → (a ≡ w → b ≡ i + 8 → ⊥) → at n (set ys k 1) a b ≡ at n ys a b
-      unfolding n
-      other a b q apart = get_or-set_other ys k (a * n + b) 1 0 (rw place (place_other n a b w (i + 8) q (omega arith) apart))
-
-      pub sourced_more : Gained (length es + 8) (RfBelow es (i + 1)) xs (set ys k 1)
-      unfolding n
-      sourced_more a b p q =
-          elim (cases_eq b (i + 8)) [
-            | inl column ↦ elim (cases_eq a w) [
-              | inl row ↦ (
-                λ _. inr (subst (λ x. RfBelow es (i + 1) x b) (sym row) (subst (λ x. RfBelow es (i + 1) w x) (sym column) (here, omega arith))),
-                λ _. ap yes (now a b (sym row) (sym column)),
-              )
+        pub sourced_more : Gained (length es + 8) (RfBelow es (i + 1)) xs zs
+        sourced_more a b p q =
+            elim (cases_eq b (i + 8)) [
+              | inl column ↦ elim (cases_eq a w) [
+                | inl row ↦ (
+                  λ _. inr (subst (λ x. RfBelow es (i + 1) x b) (sym row) (subst (λ x. RfBelow es (i + 1) w x) (sym column) (its_step, omega arith))),
+                  λ _. subst (λ x. yes (at (length es + 8) zs x b) ≡ true) (sym row) (subst (λ x. yes (at (length es + 8) zs w x) ≡ true) (sym column) (here (omega arith))),
+                )
+                | inr apart ↦
+                    Decides-at _ (yes (at (length es + 8) ys a b)) (ap yes (elsewhere a b p q (inl apart)))
+                    (Decides-like (yes (at (length es + 8) ys a b))
+                    (λ s. elim s [ inl e ↦ inl e | inr t ↦ inr (wider a b t) ])
+                    (λ s. elim s [ inl e ↦ inl e | inr t ↦ absurd (apart (sym (only a (subst (Rf es a) column t.0)))) ])
+                    (so_far a b p q))
+              ]
               | inr apart ↦
-                  Decides-at (yes (at n (set ys k 1) a b)) (yes (at n ys a b)) (ap yes (other a b q (λ e _. apart e)))
-                  (Decides-like (yes (at n ys a b))
+                  Decides-at _ (yes (at (length es + 8) ys a b)) (ap yes (elsewhere a b p q (inr apart)))
+                  (Decides-like (yes (at (length es + 8) ys a b))
                   (λ s. elim s [ inl e ↦ inl e | inr t ↦ inr (wider a b t) ])
-                  (λ s. elim s [ inl e ↦ inl e | inr t ↦ absurd (apart (sym (only a (subst (Rf es a) column t.0)))) ])
+                  (λ s. elim s [ inl e ↦ inl e | inr t ↦ let h = t.1 in inr (t.0, omega arith) ])
                   (so_far a b p q))
             ]
-            | inr apart ↦
-                Decides-at (yes (at n (set ys k 1) a b)) (yes (at n ys a b)) (ap yes (other a b q (λ _ e. apart e)))
-                (Decides-like (yes (at n ys a b))
-                (λ s. elim s [ inl e ↦ inl e | inr t ↦ inr (wider a b t) ])
-                (λ s. elim s [ inl e ↦ inl e | inr t ↦ let h = t.1 in inr (t.0, omega arith) ])
-                (so_far a b p q))
-          ]
+
+  pub sourced_marked : (i : ℕ) → i < length es → (xs : List ℕ) (t u : EventTable) → t.side ≡ length es + 8 → Gained (length es + 8) (RfBelow es i) xs t.cells →
+      (w : ℕ) → (get_or es i absent).source ≡ Some w → CellSet t u w (i + 8) true → Gained (length es + 8) (RfBelow es (i + 1)) xs u.cells
+  sourced_marked i within xs t u side so_far w is marked =
+      sourced_more i within xs t.cells so_far w is u.cells
+      (λ wn. subst (λ n. yes (at n u.cells w (i + 8)) ≡ true) side (marked.here (omega arith) (omega arith)))
+      (λ a b p q apart. subst (λ n. at n u.cells a b ≡ at n t.cells a b) side (marked.elsewhere a b (omega arith) (omega arith) apart))

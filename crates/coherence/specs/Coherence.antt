@@ -3,6 +3,7 @@
 --   ReadBefore es p r         some read that precedes r in program order takes its value from p
 --   ByValue m es L p q r      r takes its value from q, and p is visible to it or read before it: the reader of cowr, or the second of corr
 --   ByOrder m es L p q r      r is a read of p's location that p is visible to, and it precedes q in program order: the reader of corw
+--   Shows m es L p q r        the read r shows the step from p to q, by value or by order
 --   Unfit, Refused            a table does not fit
 --   TableDrawn s xs ys r      what `draw_coherence` answers: the table of coherence, or one that does not fit, as it was
 --   ShortestAnswer            what `coherence_cycle` answers: a shortest cycle, none, or a refusal
@@ -29,6 +30,9 @@ ByValue m es L p q r = Rf es q r × (Seen m es L p r ⊎ ReadBefore es p r)
 
 abbrev pub ByOrder : Meaning → List Event → List ℕ → ℕ → ℕ → ℕ → Type 0
 ByOrder m es L p q r = Po es r q × (ReadsLocation es r p × Seen m es L p r)
+
+unfoldable pub Shows : Meaning → List Event → List ℕ → ℕ → ℕ → ℕ → Type 0
+Shows m es L p q r = ByValue m es L p q r ⊎ ByOrder m es L p q r
 
 pub record Unfit (s : Sight) (xs ys : List ℕ) (why : Refusal) : Type 0 where
   pub refusal : why ≡ NotSquare

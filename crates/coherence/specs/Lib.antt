@@ -1,4 +1,5 @@
 pub mod Coherence
 pub mod Naming
+pub mod Seen
 pub mod Sights
 pub mod Visibility

@@ -7,10 +7,9 @@
 --   DrawnVisibility    what `draw_visibility` answers: three tables that fit, and then the lent one tells visibility for every
 --                      profile that the other two tell; or one that does not fit, and the lent one is as it was
 --   DrawnWithin        the same, and the lent table tells visibility for every meaning within the graph, lawful or not
---   RowJoined          n values of a list gained the yes of n values of another
 --   Gained n S xs ys   a table that gained the steps of S
 --   PushedLater        a step from an event to whatever a later event of L is pushed to by the table xs
-use Rattle.std.specs.Prelude.{◌≡◌, ℕ, ◌+◌, ◌<◌, ◌≤◌, true, ◌||◌, ◌⊎◌, List, length, Decides, Result, MatchResult, slice_index}
+use Rattle.std.specs.Prelude.{◌≡◌, ℕ, ◌+◌, ◌<◌, true, ◌⊎◌, List, length, Decides, Result, MatchResult}
 use Rattle.measures.specs.declared.settling.Refusal.{Refusal}
 use Rattle.measures.specs.declared.settling.Refusal.TheVariants.{NotSquare}
 use Rattle.measures.specs.Outcome.{Square}
@@ -58,12 +57,6 @@ DrawnWithin es kept pushed L xs ys r =
     (λ _. AllFit es kept pushed xs
     × ((m : Meaning) → Within m es → Drawn (Kept m es) (length es + 8) kept → Drawn (Pushed m es) (length es + 8) pushed → Told m es L ys))
     (Refused es kept pushed xs ys)
-
--- the values at `to` gained those of the list row at `from`
-pub record RowJoined (n to from : ℕ) (row xs ys : List ℕ) : Type 0 where
-  pub inside : (c : ℕ) → c < n → yes (slice_index ys (to + c)) ≡ (yes (slice_index xs (to + c)) || yes (slice_index row (from + c)))
-  pub before : (k : ℕ) → k < to → slice_index ys k ≡ slice_index xs k
-  pub behind : (k : ℕ) → to + n ≤ k → slice_index ys k ≡ slice_index xs k
 
 abbrev pub Gained : ℕ → (ℕ → ℕ → Type 0) → List ℕ → List ℕ → Type 0
 Gained n S xs ys = (a b : ℕ) → a < n → b < n → Decides (yes (at n ys a b)) ((yes (at n xs a b) ≡ true) ⊎ S a b)

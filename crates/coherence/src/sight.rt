@@ -4,14 +4,15 @@ ghost use Rattle.graph.specs.Codes.{is_write};
 ghost use Rattle.graph.specs.Events.{event};
 ghost use Rattle.measures.specs.Walks.{Yes};
 ghost use Rattle.axioms.specs.Relations.{PoLoc, Rivals, Holds};
-ghost use Rattle.coherence.specs.Sights.{Throughout, Seen, Writes, ReadsLocation};
+ghost use Rattle.axioms.specs.declared.rule.Rule.TheVariants.{Cowr, Corw};
+ghost use Rattle.coherence.specs.Sights.{Throughout, Seen, Writes, ReadsLocation, ByReaders};
 ghost use Rattle.coherence.specs.Visibility.{Fits};
 
 use axioms::rule::Rule;
-use graph::event::{Event, INITIAL};
+use axioms::table::side_of;
+use graph::event::Event;
 use graph::lookup::event_at;
 use graph::order::{precedes, reads_from};
-use measures::settling::LARGEST;
 
 /// The added events of a graph, with the table of what leads where by steps of visibility.
 ///
@@ -40,59 +41,57 @@ impl Sight<'_, '_> {
         match rule {
             Rule::ProgramOrder => precedes(events, p, q),
             Rule::ReadsFrom => reads_from(events, p, q),
-            Rule::Coww => self.are_rivals(p, q) & self.is_visible(p, q),
-            Rule::Cowr => {
-                self.are_rivals(p, q) & reads_from(events, q, reader) & self.is_visible(p, reader)
-            }
-            Rule::Corw => {
-                self.are_rivals(p, q)
-                    & self.reads_location(reader, p)
-                    & self.is_visible(p, reader)
-                    & precedes(events, reader, q)
-            }
-            Rule::Corr => {
-                self.are_rivals(p, q)
-                    & reads_from(events, p, reader)
-                    & precedes(events, reader, second)
-                    & reads_from(events, q, second)
-            }
+            Rule::Coww => self.are_rivals(p, q) && self.is_visible(p, q),
+            Rule::Cowr => self.holds_by_cowr(p, q, reader),
+            Rule::Corw => self.holds_by_corw(p, q, reader),
+            Rule::Corr => self.holds_by_corr(p, q, reader, second),
         }
+    }
+
+    // Does the step hold by cowr?
+    fn holds_by_cowr(&self, p: u8, q: u8, reader: u8) -> bool
+        ensures { Throughout self.now (λ es m L. Decides result (Holds m es L Cowr p q reader 255)) }
+    {
+        self.are_rivals(p, q) && reads_from(self.events, q, reader) && self.is_visible(p, reader)
+    }
+
+    // Does the step hold by corw?
+    fn holds_by_corw(&self, p: u8, q: u8, reader: u8) -> bool
+        ensures { Throughout self.now (λ es m L. Decides result (Holds m es L Corw p q reader 255)) }
+    {
+        self.are_rivals(p, q)
+            && self.reads_location(reader, p)
+            && self.is_visible(p, reader)
+            && precedes(self.events, reader, q)
+    }
+
+    // Does the step hold by corr? That is a question of what the readers read, and not of what is visible.
+    pub(crate) fn holds_by_corr(&self, p: u8, q: u8, reader: u8, second: u8) -> bool
+        ensures { Decides result (ByReaders self.now.events.now p q reader second) }
+    {
+        self.are_rivals(p, q)
+            && reads_from(self.events, p, reader)
+            && precedes(self.events, reader, second)
+            && reads_from(self.events, q, second)
     }
 
     // Are `p` and `q` distinct writes of one location?
     pub(crate) fn are_rivals(&self, p: u8, q: u8) -> bool
         ensures { Decides result (Rivals self.now.events.now p q) }
     {
-        let Some(first) = self.written(p) else {
-            return false;
-        };
-        let Some(second) = self.written(q) else {
-            return false;
-        };
-        first == second && p != q
-    }
-
-    // How many events there are; 0 where they are too many for a table.
-    pub(crate) fn side(&self) -> u8
-        ensures small { result ≤ 64 }
-        ensures is { length self.now.events.now + 8 ≤ 64 → result ≡ length self.now.events.now + 8 }
-    {
-        let side = self.events.len() + INITIAL as usize;
-        if side > LARGEST { 0 } else { side as u8 }
+        match self.written(p) {
+            Some(location) => p != q && self.written(q) == Some(location),
+            None => false,
+        }
     }
 
     // The location that a write writes; none where the event is no write.
     fn written(&self, number: u8) -> Option<u8>
         ensures { MatchOption result (is_write (event self.now.events.now number).code ≡ false) (Writes self.now.events.now number) }
     {
-        let Some(event) = event_at(self.events, number) else {
-            return None;
-        };
-        if event.code.is_write() {
-            Some(event.location)
-        } else {
-            None
-        }
+        event_at(self.events, number)
+            .filter(|event| event.code.is_write())
+            .map(|event| event.location)
     }
 
     // Is `reader` a read of the location of `p`?
@@ -109,39 +108,30 @@ impl Sight<'_, '_> {
     fn is_po_loc(&self, a: u8, b: u8) -> bool
         ensures { Decides result (PoLoc self.now.events.now a b) }
     {
-        if !precedes(self.events, a, b) {
-            return false;
-        }
-        match (event_at(self.events, a), event_at(self.events, b)) {
-            (Some(first), Some(second)) => {
-                first.code.is_access()
-                    && second.code.is_access()
-                    && first.location == second.location
+        precedes(self.events, a, b)
+            && match (event_at(self.events, a), event_at(self.events, b)) {
+                (Some(first), Some(second)) => {
+                    first.code.is_access()
+                        && second.code.is_access()
+                        && first.location == second.location
+                }
+                _ => false,
             }
-            _ => false,
-        }
     }
 
     // Does the table say that steps of visibility lead from `a` to `b`?
     fn has_way(&self, a: u8, b: u8) -> bool
         ensures { Fits self.now.events.now self.now.leads.now → Decides result (Yes (length self.now.events.now + 8) self.now.leads.now a b) }
     {
-        let side = self.events.len() + INITIAL as usize;
-        if side > LARGEST {
+        let Ok(side) = side_of(self.events) else {
+            return false;
+        };
+        let (row, column) = (a as usize, b as usize);
+        if row >= side || column >= side {
             return false;
         }
-        let row = a as usize;
-        let column = b as usize;
-        if row >= side {
-            return false;
-        }
-        if column >= side {
-            return false;
-        }
-        let place = row * side + column;
-        if place >= self.leads.len() {
-            return false;
-        }
-        self.leads[place] != 0
+        self.leads
+            .get(row * side + column)
+            .is_some_and(|says| *says != 0)
     }
 }

@@ -1,12 +1,56 @@
 // The table of visibility: what leads where by steps of reads-from, kept pairs and push steps.
-ghost use Rattle.std.specs.Prelude.{◌+◌, ◌≤◌, length};
-ghost use Rattle.measures.specs.Outcome.{Square};
+ghost use Rattle.std.specs.Prelude.{◌≡◌, ◌+◌, ◌*◌, length, MatchResult};
 ghost use Rattle.graph.specs.Order.{Rf};
-ghost use Rattle.coherence.specs.Visibility.{Fits, DrawnVisibility, DrawnWithin, RowJoined, Gained, PushedLater};
+ghost use Rattle.axioms.specs.EventTables.{cells_of};
+ghost use Rattle.coherence.specs.Seen.{VisibilityOf, NoVisibility};
+ghost use Rattle.coherence.specs.Visibility.{DrawnVisibility, DrawnWithin, Gained, PushedLater};
 
+use crate::sight::Sight;
+use axioms::table::{EventTable, join, side_of};
 use graph::event::{Event, INITIAL};
-use measures::reach::settle_reach;
-use measures::settling::{LARGEST, Refusal};
+use measures::settling::{LARGEST, Refusal, check_square};
+
+/// What leads where by steps of visibility, one or more, among a graph's events under a push order.
+#[derive(Drop)]
+pub struct Visibility<'e> {
+    /// The added events.
+    events: &'e [Event],
+    table: EventTable,
+}
+
+impl<'e> Visibility<'e> {
+    /// Draws the table of visibility.
+    ///
+    /// `kept` and `pushed` are the yes/no tables of the pairs that a profile keeps and pushes, and `list` is the push order.
+    /// Each table has a row for each event, the initial writes first; a table of another size is refused, and so are more
+    /// than 56 added events. A listed number that names no event pushes nothing.
+    pub fn of(
+        events: &'e [Event],
+        kept: &[u8],
+        pushed: &[u8],
+        list: &[u8],
+    ) -> Result<Visibility<'e>, Refusal>
+        ensures { MatchResult result (VisibilityOf events.now kept.now pushed.now list.now) (NoVisibility events.now kept.now pushed.now) }
+    {
+        let mut table = EventTable::copy(events, kept)?;
+        check_square(pushed, table.side())?;
+        add_push_steps(pushed, list, &mut table);
+        add_sources(events, &mut table);
+        table.settle();
+        Ok(Visibility { events, table })
+    }
+
+    /// The events with the table, to be asked what is visible and which steps hold.
+    pub fn sight(&self) -> Sight<'e, '_>
+        ensures events { result.events.now ≡ self.now.events.now }
+        ensures leads { result.leads.now ≡ cells_of self.now.table }
+    {
+        Sight {
+            events: self.events,
+            leads: self.table.cells(),
+        }
+    }
+}
 
 /// Draws into `cells` what leads where by steps of visibility, one or more.
 ///
@@ -23,65 +67,38 @@ pub fn draw_visibility(
     ensures drawn { DrawnVisibility events.now kept.now pushed.now list.now cells.old cells.new result }
     ensures within { DrawnWithin events.now kept.now pushed.now list.now cells.old cells.new result }
 {
-    let side = events.len() + INITIAL as usize;
-    if side > LARGEST {
-        return Err(Refusal::NotSquare);
-    }
-    if kept.len() != side * side {
-        return Err(Refusal::NotSquare);
-    }
-    if pushed.len() != side * side {
-        return Err(Refusal::NotSquare);
-    }
-    if cells.len() != side * side {
-        return Err(Refusal::NotSquare);
-    }
-    cells.copy_from_slice(kept);
-    add_push_steps(pushed, list, cells, side);
-    add_sources(events, cells);
-    settle_reach(cells, side)
+    check_square(cells, side_of(events)?)?;
+    let visibility = Visibility::of(events, kept, pushed, list)?;
+    cells.copy_from_slice(visibility.table.cells());
+    Ok(())
 }
 
 // Adds the push steps: from the last listed event to the first, with the row of all that later events push to.
-fn add_push_steps(pushed: &[u8], list: &[u8], cells: &mut [u8], side: usize)
-    requires square { Square side pushed.now }
-    requires shape { Square side cells.old }
-    ensures { Gained side (PushedLater side pushed.now list.now) cells.old cells.new }
+fn add_push_steps(pushed: &[u8], list: &[u8], table: &mut EventTable)
+    requires { length pushed.now ≡ table.old.side * table.old.side }
+    ensures side { table.new.side ≡ table.old.side }
+    ensures steps { Gained table.old.side (PushedLater table.old.side pushed.now list.now) table.old.cells table.new.cells }
 {
-    let mut later = [0u8; 64];
-    for i in (0..list.len()).rev() {
-        let event = list[i] as usize;
-        if event < side {
-            join_row(cells, event * side, &later, 0, side);
-            join_row(&mut later, 0, pushed, event * side, side);
+    let side = table.side();
+    let mut later = [0; LARGEST];
+    for event in list.iter().rev() {
+        let row = *event as usize;
+        if row < side {
+            table.join_row(*event, &later);
+            join(&mut later, &pushed[row * side..(row + 1) * side]);
         }
     }
 }
 
 // Adds the steps from a read's source to the read.
-fn add_sources(events: &[Event], cells: &mut [u8])
-    requires { Fits events.now cells.old }
-    ensures { Gained (length events.now + 8) (Rf events.now) cells.old cells.new }
+fn add_sources(events: &[Event], table: &mut EventTable)
+    requires { table.old.side ≡ length events.now + 8 }
+    ensures side { table.new.side ≡ table.old.side }
+    ensures steps { Gained (length events.now + 8) (Rf events.now) table.old.cells table.new.cells }
 {
-    let side = events.len() + INITIAL as usize;
-    for i in 0..events.len() {
-        if let Some(source) = events[i].source {
-            let row = source as usize;
-            if row < side {
-                cells[row * side + i + INITIAL as usize] = 1;
-            }
+    for (added, event) in events.iter().enumerate() {
+        if let Some(source) = event.source {
+            table.mark(source, added as u8 + INITIAL, true);
         }
-    }
-}
-
-// Gives `side` values of `into`, from the place `to` on, the yes of as many values of `row` from the place `from` on.
-// Two runs of values and no test inside the loop: the compiler makes vector code of it.
-fn join_row(into: &mut [u8], to: usize, row: &[u8], from: usize, side: usize)
-    requires into { to + side ≤ length into.old }
-    requires row { from + side ≤ length row.now }
-    ensures { RowJoined side to from row.now into.old into.new }
-{
-    for c in 0..side {
-        into[to + c] |= row[from + c];
     }
 }

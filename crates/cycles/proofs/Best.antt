@@ -1,54 +1,34 @@
--- The lowest vertex with the shortest way back to itself, among the first v.
-use Rattle.std.proofs.Common.{◌≡◌, ℕ, ◌+◌, ◌<◌, ◌≤◌, List, subst, inl, inr, arith}
-use Rattle.std.proofs.lemmas.Bool.{cases_lt}
+-- The lowest vertex with the shortest way back to itself.
+use Rattle.std.proofs.Common.{◌≡◌, ◌≢◌, ℕ, ◌<◌, ◌≤◌, Bool, true, false, List, Option, Some, None, MatchOption, sym, subst, arith}
+use Rattle.std.specs.Bool.{then_some}
 use Rattle.measures.specs.Walks.{at}
-use Rattle.cycles.specs.Distances.{AllFar, Nearest}
+use Rattle.cycles.specs.Distances.{AllFar, FewestBack, Nearest}
 
-pub record SoFar (n : ℕ) (ys : List ℕ) (v best least : ℕ) : Type 0 where
-  pub all : (a : ℕ) → a < v → least ≤ at n ys a a
-  pub below : least ≤ 64 → best < v
-  pub is : least ≤ 64 → at n ys best best ≡ least
-  pub first : (a : ℕ) → a < best → least < at n ys a a
+module _ (n : ℕ) (ys : List ℕ) where
+  -- The least way back, kept if it is short enough to be one. `Gives` tells what the test answers.
+  pub fewest_kept : (Gives : ℕ → Bool → Type 0) (r kept : Option ℕ) → ((m : ℕ) → Gives m true → m ≤ 64) → ((m : ℕ) → Gives m false → 64 < m) →
+      MatchOption r (n ≡ 0) (λ m. ((a : ℕ) × (a < n) × (at n ys a a ≡ m)) × ((a : ℕ) → a < n → m ≤ at n ys a a)) →
+      MatchOption r (kept ≡ None) (λ m. (b : Bool) × Gives m b × (kept ≡ then_some b m)) →
+      MatchOption kept (AllFar n ys) (FewestBack n ys)
+  fewest_kept Gives None kept short long h e = subst (λ o. MatchOption o (AllFar n ys) (FewestBack n ys)) (sym e) (λ a p. absurd (omega arith))
+  fewest_kept Gives (Some m) kept short long h e = go e.0 e.1 e.2
+    where
+      go : (b : Bool) → Gives m b → kept ≡ then_some b m → MatchOption kept (AllFar n ys) (FewestBack n ys)
+      go true k is = subst (λ o. MatchOption o (AllFar n ys) (FewestBack n ys)) (sym is) (record { some = h.0; least = h.1; small = short m k })
+      go false k is = subst (λ o. MatchOption o (AllFar n ys) (FewestBack n ys)) (sym is) (λ a p. omega (arith, h.1 a p, long m k))
 
-pub none_yet : (n : ℕ) (ys : List ℕ) → SoFar n ys 0 0 255
-none_yet n ys = record {
-  all = λ a h. absurd (omega arith);
-  below = λ h. absurd (omega arith);
-  is = λ h. absurd (omega arith);
-  first = λ a h. absurd (omega arith);
-}
-
-pub better : (n : ℕ) (ys : List ℕ) (v best least d : ℕ) → SoFar n ys v best least → at n ys v v ≡ d → d < least → SoFar n ys (v + 1) v d
-better n ys v best least d s e h = record {
-  all = λ a l. elim (cases_lt a v) [
-    | inl k ↦ omega (arith, s.all a k)
-    | inr k ↦ let same : v ≡ a = omega arith in subst (λ x. d ≤ at n ys x x) same (omega arith)
-  ];
-  below = λ _. omega arith;
-  is = λ _. e;
-  first = λ a l. omega (arith, s.all a l);
-}
-
-pub no_better : (n : ℕ) (ys : List ℕ) (v best least d : ℕ) → SoFar n ys v best least → at n ys v v ≡ d → least ≤ d → SoFar n ys (v + 1) best least
-no_better n ys v best least d s e h = record {
-  all = λ a l. elim (cases_lt a v) [
-    | inl k ↦ s.all a k
-    | inr k ↦ let same : v ≡ a = omega arith in subst (λ x. least ≤ at n ys x x) same (omega arith)
-  ];
-  below = λ l. omega (arith, s.below l);
-  is = s.is;
-  first = s.first;
-}
-
-pub found_nearest : (n : ℕ) (ys : List ℕ) (best least : ℕ) → SoFar n ys n best least → least ≤ 64 → Nearest n ys best
-found_nearest n ys best least s h =
-    let e = s.is h in
-    record {
-      below = s.below h;
-      small = omega arith;
-      least = λ a l. omega (arith, s.all a l);
-      first = λ a l. omega (arith, s.first a l);
-    }
-
-pub none_near : (n : ℕ) (ys : List ℕ) (best least : ℕ) → SoFar n ys n best least → 64 < least → AllFar n ys
-none_near n ys best least s h = λ a l. omega (arith, s.all a l)
+  pub nearest_found : (k : ℕ) → FewestBack n ys k → (r : Option ℕ) →
+      MatchOption r ((a : ℕ) → 0 ≤ a → a < n → at n ys a a ≢ k)
+      (λ s. (0 ≤ s) × (s < n) × (at n ys s s ≡ k) × ((a : ℕ) → 0 ≤ a → a < s → at n ys a a ≢ k)) →
+      MatchOption r (AllFar n ys) (Nearest n ys)
+  nearest_found k f None none = let there = f.some in absurd (none there.0 (omega arith) there.1 there.2)
+  nearest_found k f (Some s) h =
+      let below = h.1 in
+      let is = h.2 in
+      let small = f.small in
+      record {
+        below = below;
+        small = omega arith;
+        least = λ a p. omega (arith, f.least a p);
+        first = λ a p. let other = h.3 a (omega arith) p in omega (arith, f.least a (omega arith));
+      }

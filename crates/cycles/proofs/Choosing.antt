@@ -1,5 +1,5 @@
--- The search for the next vertex: those that it has passed will not do, and the first that does is the lowest.
-use Rattle.std.proofs.Common.{◌≡◌, ℕ, ◌+◌, ◌<◌, ◌≤◌, true, not, List, ap, subst, inl, inr, arith}
+-- The search for the next vertex: the first that will do is the lowest.
+use Rattle.std.proofs.Common.{◌≡◌, ℕ, ◌<◌, ◌≤◌, true, not, List, Option, Some, None, MatchOption, refl, ap, inl, inr, arith}
 use Rattle.std.proofs.lemmas.Bool.{cases_lt, ne_eqb, both_ways, eq-eqb}
 use Rattle.measures.specs.Reach.{yes}
 use Rattle.measures.specs.Walks.{at, Yes}
@@ -10,20 +10,24 @@ yes_where_not_0 x h = ap not (ne_eqb x 0 h)
 pub not_0_where_yes : (x : ℕ) → yes x ≡ true → x ≡ 0 → ⊥
 not_0_where_yes x h e = both_ways (yes x) (ap not (eq-eqb x 0 e)) h
 
--- None of the vertices below w will do.
-abbrev pub Passed : ℕ → List ℕ → List ℕ → ℕ → ℕ → ℕ → ℕ → Type 0
-Passed n xs ys from to left w = (k : ℕ) → k < w → Yes n xs from k → at n ys k to ≡ left → ⊥
-
-module _ (n : ℕ) (xs ys : List ℕ) (from to left w : ℕ) (passed : Passed n xs ys from to left w) where
-  pub pass_more : (Yes n xs from w → at n ys w to ≡ left → ⊥) → Passed n xs ys from to left (w + 1)
-  pass_more fails k h step is =
-      elim (cases_lt k w) [
-        | inl l ↦ passed k l step is
-        | inr l ↦ let same : k ≡ w = omega arith in fails (subst (Yes n xs from) same step) (subst (λ z. at n ys z to ≡ left) same is)
-      ]
-
-  pub not_all_passed : n ≤ w → ((v : ℕ) × Yes n xs from v × (at n ys v to ≡ left)) → ⊥
-  not_all_passed h there = let p = there.1.column in passed there.0 (omega arith) there.1 there.2
-
+-- A vertex that a step leads to and that has `left` steps to go, as a search among the vertices finds it.
+pub record Chosen (n : ℕ) (xs ys : List ℕ) (from to left w : ℕ) : Type 0 where
+  pub step : Yes n xs from w
+  pub nearer : at n ys w to ≡ left
   pub lowest : (v : ℕ) → Yes n xs from v → at n ys v to ≡ left → w ≤ v
-  lowest v step is = elim (cases_lt v w) [ inl l ↦ absurd (passed v l step is) | inr l ↦ l ]
+
+module _ (n : ℕ) (xs ys : List ℕ) (from to left : ℕ) (row : from < n) (there : (w : ℕ) × Yes n xs from w × (at n ys w to ≡ left)) where
+  pub chosen : (r : Option ℕ) →
+      MatchOption r ((k : ℕ) → 0 ≤ k → k < n → yes (at n xs from k) ≡ true → at n ys k to ≡ left → ⊥)
+      (λ w. (0 ≤ w) × (w < n) × ((yes (at n xs from w) ≡ true) × (at n ys w to ≡ left)) × ((k : ℕ) → 0 ≤ k → k < w → yes (at n xs from k) ≡ true → at n ys k to ≡ left → ⊥)) →
+      (w : ℕ) × (r ≡ Some w) × Chosen n xs ys from to left w
+  chosen None none = absurd (none there.0 (omega arith) there.1.column there.1.is_yes there.2)
+  chosen (Some w) h = (
+    w,
+    refl,
+    record {
+      step = record { row = row; column = h.1; is_yes = h.2.0 };
+      nearer = h.2.1;
+      lowest = λ v s e. elim (cases_lt v w) [ inl l ↦ absurd (h.3 v (omega arith) l s.is_yes e) | inr l ↦ l ];
+    },
+  )

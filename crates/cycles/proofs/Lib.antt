@@ -5,5 +5,6 @@ pub mod Choosing
 pub mod Found
 pub mod Looping
 pub mod Measuring
+pub mod Ranges
 pub mod Trailing
 pub mod Walking

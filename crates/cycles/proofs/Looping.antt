@@ -1,5 +1,5 @@
 -- A settled yes/no table tells by its diagonal whether there is a cycle.
-use Rattle.std.proofs.Common.{◌≡◌, ℕ, ◌<◌, true, false, List, refl}
+use Rattle.std.proofs.Common.{◌≡◌, ℕ, ◌<◌, ◌≤◌, ◌≢◌, Bool, true, false, MatchBool, List, refl, arith}
 use Rattle.std.proofs.lemmas.Bool.{false≢true}
 use Rattle.measures.specs.Outcome.{Square}
 use Rattle.measures.specs.Walks.{at, Yes, Reachable, Leads, last, more}
@@ -12,21 +12,19 @@ module _ (n : ℕ) (xs : List ℕ) where
   leads_below b a (more s r) = s.row
 
   module _ (ys : List ℕ) (square : Square n xs) (reach : Reachable n xs ys) where
-    pub loops : (v : ℕ) → v < n → (at n ys v v ≡ 0 → ⊥) → Tested n xs ys true
-    loops v p h = record {
+    pub tested : (r : Bool) → MatchBool r ((v : ℕ) × (0 ≤ v) × (v < n) × (at n ys v v ≢ 0)) ((v : ℕ) → 0 ≤ v → v < n → at n ys v v ≡ 0) → Tested n xs ys r
+    tested true h = record {
       square = square;
       reachable = reach;
-      decides = (λ _. (v, (reach v v p p).0 (yes_where_not_0 (at n ys v v) h)), λ _. refl);
+      decides = (λ _. (h.0, (reach h.0 h.0 h.2 h.2).0 (yes_where_not_0 (at n ys h.0 h.0) h.3)), λ _. refl);
     }
-
-    pub no_loops : ((k : ℕ) → k < n → at n ys k k ≡ 0) → Tested n xs ys false
-    no_loops none = record {
+    tested false none = record {
       square = square;
       reachable = reach;
       decides = (
         λ e. absurd (false≢true e),
         λ h.
             let p = leads_below h.0 h.0 h.1 in
-            absurd (not_0_where_yes (at n ys h.0 h.0) ((reach h.0 h.0 p p).1 h.1) (none h.0 p)),
+            absurd (not_0_where_yes (at n ys h.0 h.0) ((reach h.0 h.0 p p).1 h.1) (none h.0 (omega arith) p)),
       );
     }

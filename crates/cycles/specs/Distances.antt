@@ -3,6 +3,7 @@
 --   Marked xs ys           ys has 1 where the yes/no table xs says yes, and 255 elsewhere
 --   Distances R n ys       an entry of at most 64 is the number of steps of a walk of R, and no such walk has fewer
 --   AllFar n ys            no vertex has a way of at most 64 steps back to itself
+--   FewestBack n ys k      k is the fewest steps, at most 64, by which a vertex leads back to itself
 --   Nearest n ys s         s is the lowest of the vertices whose way back to themselves is shortest
 --   Onward R n ys s v w    w is the lowest vertex with a step from v to it that is nearer to s than v by one step
 --   Way R n ys s v ws      from v through ws to s, ever onward
@@ -21,6 +22,11 @@ pub record Distances (R : ℕ → ℕ → Type 0) (n : ℕ) (ys : List ℕ) : Ty
 
 abbrev pub AllFar : ℕ → List ℕ → Type 0
 AllFar n ys = (a : ℕ) → a < n → 64 < at n ys a a
+
+pub record FewestBack (n : ℕ) (ys : List ℕ) (k : ℕ) : Type 0 where
+  pub some : (a : ℕ) × (a < n) × (at n ys a a ≡ k)
+  pub least : (a : ℕ) → a < n → k ≤ at n ys a a
+  pub small : k ≤ 64
 
 pub record Nearest (n : ℕ) (ys : List ℕ) (s : ℕ) : Type 0 where
   pub below : s < n

@@ -1,7 +1,6 @@
 // Whether there is a cycle at all.
 ghost use Rattle.cycles.specs.Answers.{CycleTest};
 
-use crate::table::place;
 use measures::reach::settle_reach;
 use measures::settling::Refusal;
 
@@ -14,10 +13,5 @@ pub fn has_cycle(cells: &mut [u8], side: usize) -> Result<bool, Refusal>
     ensures { CycleTest side cells.old cells.new result }
 {
     settle_reach(cells, side)?;
-    for v in 0..side {
-        if cells[place(side, v, v)] != 0 {
-            return Ok(true);
-        }
-    }
-    Ok(false)
+    Ok((0..side).any(|v| cells[v * side + v] != 0))
 }

@@ -3,4 +3,3 @@
 
 pub mod exists;
 pub mod shortest;
-mod table;

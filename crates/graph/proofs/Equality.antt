@@ -1,46 +1,19 @@
 -- `==` on slices of events decides whether they are equal.
-use Rattle.std.proofs.Common.{◌≡◌, ℕ, Bool, List, Decides, ◌==◌, Option, Some, None, refl, ap, rules}
+use Rattle.std.proofs.Common.{◌≡◌, ℕ, Bool, List, Decides, ◌==◌, Option, ap, rules}
 use Rattle.std.specs.Cmp.Lexicographic.{pointwise}
 use Rattle.std.specs.Option.{option_eq}
 use Rattle.std.proofs.lemmas.Bool.Decides.{Decides-like, Decides-and, Decides-eqb}
 use Rattle.std.proofs.lemmas.Slice.Eq.{slice_eq-Decides}
 use Rattle.graph.specs.declared.code.Code.{Code}
-use Rattle.graph.specs.declared.code.Code.TheVariants.{Read, Write, Fence}
-use Rattle.graph.specs.declared.code.ReadMode.{ReadMode}
-use Rattle.graph.specs.declared.code.WriteMode.{WriteMode}
-use Rattle.graph.specs.declared.code.FenceMode.{FenceMode}
 use Rattle.graph.specs.declared.event.Event.{Event}
-use Rattle.graph.specs.contracts.code.ReadModePartialEq.TheImpl as read_modes
-use Rattle.graph.specs.contracts.code.WriteModePartialEq.TheImpl as write_modes
-use Rattle.graph.specs.contracts.code.FenceModePartialEq.TheImpl as fence_modes
 use Rattle.graph.specs.contracts.code.CodePartialEq.TheImpl as code_tests
 use Rattle.graph.specs.contracts.event.EventPartialEq.TheImpl.{ghosts}
 
-read_mode_decides : (x y : ReadMode) → Decides (read_modes.ghosts.eq x y) (x ≡ y)
-read_mode_decides x y = search rules
-
-write_mode_decides : (x y : WriteMode) → Decides (write_modes.ghosts.eq x y) (x ≡ y)
-write_mode_decides x y = search rules
-
-fence_mode_decides : (x y : FenceMode) → Decides (fence_modes.ghosts.eq x y) (x ≡ y)
-fence_mode_decides x y = search rules
-
 code_decides : (x y : Code) → Decides (code_tests.ghosts.eq x y) (x ≡ y)
-code_decides (Read x) (Read y) = Decides-like _ (ap Read) (λ e. cc) (read_mode_decides x y)
-code_decides (Read x) (Write y) = (λ e. cc, λ e. cc)
-code_decides (Read x) (Fence y) = (λ e. cc, λ e. cc)
-code_decides (Write x) (Read y) = (λ e. cc, λ e. cc)
-code_decides (Write x) (Write y) = Decides-like _ (ap Write) (λ e. cc) (write_mode_decides x y)
-code_decides (Write x) (Fence y) = (λ e. cc, λ e. cc)
-code_decides (Fence x) (Read y) = (λ e. cc, λ e. cc)
-code_decides (Fence x) (Write y) = (λ e. cc, λ e. cc)
-code_decides (Fence x) (Fence y) = Decides-like _ (ap Fence) (λ e. cc) (fence_mode_decides x y)
+code_decides x y = search rules
 
 source_decides : (x y : Option ℕ) → Decides (option_eq ◌==◌ x y) (x ≡ y)
-source_decides (Some x) (Some y) = Decides-like _ (ap Some) (λ e. cc) (Decides-eqb x y)
-source_decides (Some x) None = (λ e. cc, λ e. cc)
-source_decides None (Some y) = (λ e. cc, λ e. cc)
-source_decides None None = (λ e. refl, λ e. refl)
+source_decides x y = search rules
 
 same_fields : (x y : Event) → x.thread ≡ y.thread → x.code ≡ y.code → x.location ≡ y.location → x.value ≡ y.value → x.source ≡ y.source → x ≡ y
 same_fields x y p q r s t = λ i. record { thread = p i; code = q i; location = r i; value = s i; source = t i }

@@ -91,27 +91,23 @@ module _ (es : List Event) (count : ℕ) (log : List Undo) (standing : ℕ) (hs 
         let F : ℕ → ℕ → Outcome = λ m k. unless (first (add_checks (room_of es) m k t n (code_of n) l v)) hs (record { answer = Ok (m + 8); steps = added t (code_of n) l v ∷ hs }) in
         ap (λ m. F m (length hs)) graph_length ∙ ap (λ k. F count k) (sym h.steps) ∙ ap (λ q. unless q hs (record { answer = Ok (count + 8); steps = added t (code_of n) l v ∷ hs })) e
 
-    module _ (room : ℕ) (is-room : room ≡ room_of es) where
-      abbrev Checked : {X : Type 0} → X → Result X Refusal
-      Checked x = passed (first (add_checks room count standing t n (code_of n) l v)) x
+    abbrev Checked : {X : Type 0} → X → Result X Refusal
+    Checked x = passed (first (add_checks (room_of es) count standing t n (code_of n) l v)) x
 
-      none_held : (o : Option Refusal) → first (add_checks room count standing t n (code_of n) l v) ≡ o → first (add_checks (room_of es) count standing t n (code_of n) l v) ≡ o
-      none_held o e = subst (λ m. first (add_checks m count standing t n (code_of n) l v) ≡ o) is-room e
+    pub add_refused : (e : Refusal) → Err e ≡ Checked (code_of n) → (a : Result ℕ Refused) → a ≡ Err (plain e)
+        → (a ≡ After-add.answer) × Tells es count log standing After-add.steps
+    add_refused e p a is =
+        let out = attempt_add (Some e) (passed_err _ _ e p) in
+        (is ∙ sym (ap (λ o. o.answer) out), subst (Tells es count log standing) (sym (ap (λ o. o.steps) out)) h)
 
-      pub add_refused : (e : Refusal) → Err e ≡ Checked (code_of n) → (a : Result ℕ Refused) → a ≡ Err (plain e)
-          → (a ≡ After-add.answer) × Tells es count log standing After-add.steps
-      add_refused e p a is =
-          let out = attempt_add (Some e) (none_held (Some e) (passed_err _ _ e p)) in
-          (is ∙ sym (ap (λ o. o.answer) out), subst (Tells es count log standing) (sym (ap (λ o. o.steps) out)) h)
-
-      pub add_done : (k : Code) → Ok k ≡ Checked (code_of n) → count < room → standing < 256 → (e : Event) → e ≡ fresh t k l v
-          → (Ok (count + 8) ≡ After-add.answer) × Tells (set es count e) (count + 1) (set log standing Added) (standing + 1) After-add.steps
-      add_done k p fits more e is =
-          let q = passed_ok _ _ k p in
-          let out = attempt_add None (none_held None q.0) in
-          let made : e ≡ fresh t (code_of n) l v = is ∙ ap (λ z. fresh t z l v) q.1 in
-          let told = subst (λ x. Tells (set es count x) (count + 1) (set log standing Added) (standing + 1) (added t (code_of n) l v ∷ hs)) (sym made) (tells_add t (code_of n) l v (omega (arith, is-room)) more) in
-          (sym (ap (λ o. o.answer) out), subst (Tells (set es count e) (count + 1) (set log standing Added) (standing + 1)) (sym (ap (λ o. o.steps) out)) told)
+    pub add_done : (k : Code) → Ok k ≡ Checked (code_of n) → count < room_of es → standing < 256 → (e : Event) → e ≡ fresh t k l v
+        → (Ok (count + 8) ≡ After-add.answer) × Tells (set es count e) (count + 1) (set log standing Added) (standing + 1) After-add.steps
+    add_done k p fits more e is =
+        let q = passed_ok _ _ k p in
+        let out = attempt_add None q.0 in
+        let made : e ≡ fresh t (code_of n) l v = is ∙ ap (λ z. fresh t z l v) q.1 in
+        let told = subst (λ x. Tells (set es count x) (count + 1) (set log standing Added) (standing + 1) (added t (code_of n) l v ∷ hs)) (sym made) (tells_add t (code_of n) l v fits more) in
+        (sym (ap (λ o. o.answer) out), subst (Tells (set es count e) (count + 1) (set log standing Added) (standing + 1)) (sym (ap (λ o. o.steps) out)) told)
 
   -- a sourcing, by the answer of its checks
   module _ (room r w : ℕ) where
@@ -125,25 +121,20 @@ module _ (es : List Event) (count : ℕ) (log : List Undo) (standing : ℕ) (hs 
         let F : List Event → ℕ → Outcome = λ g k. unless (first (source_checks g k r w)) hs (record { answer = Ok (k + 1); steps = sourced r w ∷ hs }) in
         ap (λ g. F g (length hs)) h.events ∙ ap (λ k. F (take count es) k) (sym h.steps) ∙ ap (λ q. unless q hs (record { answer = Ok (standing + 1); steps = sourced r w ∷ hs })) e
 
-    module _ (xs : List Event) (is-xs : xs ≡ take count es) where
-      none_found : (o : Option Refusal) → first (source_checks xs standing r w) ≡ o → first (source_checks (take count es) standing r w) ≡ o
-      none_found o e = subst (λ g. first (source_checks g standing r w) ≡ o) is-xs e
+    abbrev Sourced-checks : Result (Option ℕ) Refusal
+    Sourced-checks = passed (first (source_checks (take count es) standing r w)) (event (take count es) r).source
 
-      pub source_refused : (e : Refusal) → Err e ≡ passed (first (source_checks xs standing r w)) (event xs r).source → (a : Result ℕ Refused) → a ≡ Err (plain e)
-          → (a ≡ After-source.answer) × Tells es count log standing After-source.steps
-      source_refused e p a is =
-          let out = attempt_source (Some e) (none_found (Some e) (passed_err _ _ e p)) in
-          (is ∙ sym (ap (λ o. o.answer) out), subst (Tells es count log standing) (sym (ap (λ o. o.steps) out)) h)
+    pub source_refused : (e : Refusal) → Err e ≡ Sourced-checks → (a : Result ℕ Refused) → a ≡ Err (plain e)
+        → (a ≡ After-source.answer) × Tells es count log standing After-source.steps
+    source_refused e p a is =
+        let out = attempt_source (Some e) (passed_err _ _ e p) in
+        (is ∙ sym (ap (λ o. o.answer) out), subst (Tells es count log standing) (sym (ap (λ o. o.steps) out)) h)
 
-      pub source_done : (f : Option ℕ) → Ok f ≡ passed (first (source_checks xs standing r w)) (event xs r).source → 8 ≤ r → r < length xs + 8 → standing < 256
-          → (es' : List Event) → es' ≡ resource es r (Some w)
-          → (Ok (standing + 1) ≡ After-source.answer) × Tells es' count (set log standing (Sourced r f)) (standing + 1) After-source.steps
-      source_done f p low high more es' is-es =
-          let q = passed_ok _ _ f p in
-          let out = attempt_source None (none_found None q.0) in
-          let in_graph : r - 8 < count = omega (arith, ap length is-xs, length-take-le count es in_es) in
-          let former : (event (graph hs) r).source ≡ f = ap (λ g. (event g r).source) (h.events ∙ sym is-xs) ∙ sym q.1 in
-          let told = tells_source r w low in_graph more in
-          let told₁ = subst (λ z. Tells (resource es r (Some w)) count (set log standing (Sourced r z)) (standing + 1) (sourced r w ∷ hs)) former told in
-          let told₂ = subst (λ z. Tells z count (set log standing (Sourced r f)) (standing + 1) (sourced r w ∷ hs)) (sym is-es) told₁ in
-          (sym (ap (λ o. o.answer) out), subst (Tells es' count (set log standing (Sourced r f)) (standing + 1)) (sym (ap (λ o. o.steps) out)) told₂)
+    pub source_done : (f : Option ℕ) → Ok f ≡ Sourced-checks → 8 ≤ r → r < count + 8 → standing < 256
+        → (Ok (standing + 1) ≡ After-source.answer) × Tells (resource es r (Some w)) count (set log standing (Sourced r f)) (standing + 1) After-source.steps
+    source_done f p low high more =
+        let q = passed_ok _ _ f p in
+        let out = attempt_source None q.0 in
+        let former : (event (graph hs) r).source ≡ f = ap (λ g. (event g r).source) h.events ∙ sym q.1 in
+        let told = subst (λ z. Tells (resource es r (Some w)) count (set log standing (Sourced r z)) (standing + 1) (sourced r w ∷ hs)) former (tells_source r w low (omega arith) more) in
+        (sym (ap (λ o. o.answer) out), subst (Tells (resource es r (Some w)) count (set log standing (Sourced r f)) (standing + 1)) (sym (ap (λ o. o.steps) out)) told)

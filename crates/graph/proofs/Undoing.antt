@@ -35,81 +35,77 @@ module _ (es : List Event) (count : ℕ) (log : List Undo) (standing : ℕ) (roo
   none_back [] h z = (refl, h)
   none_back (s ∷ hs) h z = absurd (omega (arith, h.steps))
 
-  -- the log's last entry tells which step it is
-  last : (s : Step) (hs : List Step) → Tells es count log standing (s ∷ hs) → get_or log (standing - 1) Added ≡ get_or log (length hs) Added
-  last s hs h = let n : standing - 1 ≡ length hs = omega (arith, h.steps) in ap (λ k. get_or log k Added) n
+  module _ (top : ℕ) (next : standing ≡ top + 1) where
+    -- the log's last entry tells which step it is
+    last : (s : Step) (hs : List Step) → Tells es count log standing (s ∷ hs) → get_or log top Added ≡ get_or log (length hs) Added
+    last s hs h = let n : top ≡ length hs = omega (arith, h.steps) in ap (λ k. get_or log k Added) n
 
-  pub added_back : (hs : List Step) → Tells es count log standing hs → 0 < standing → get_or log (standing - 1) Added ≡ Added
-      → (1 ≤ count) × Back es es (count - 1) log (standing - 1) hs (attempt room hs TakeBack)
-  unfolding attempt graph
-  added_back [] h pos is = absurd (omega (arith, h.steps))
-  added_back (sourced r w ∷ hs) h pos is =
-      let no_way = sym is ∙ last (sourced r w) hs h ∙ h.logged.0 in
-      let z : ◌≡◌ {A = ℕ} 0 1 = cc in absurd (omega arith)
-  added_back (added t c l v ∷ hs) h pos is =
-      let n : standing - 1 ≡ length hs = omega (arith, h.steps) in
-      let e = fresh t c l v in
-      let k = count - 1 in
-      let in_es : count ≤ length es = omega (arith, h.within) in
-      let some : 1 ≤ count = omega (arith, length_push (graph hs) e, ap length h.events, length-take-le count es in_es) in
-      let more : count ≡ k + 1 = omega arith in
-      let cut = h.events ∙ ap (λ m. take m es) more ∙ take_more es k absent (omega arith) in (
-        some,
-        record {
-          answer = ap Ok n;
-          tells = record {
-            events = (same_from_push (graph hs) (take k es) e (get_or es k absent) cut).0;
-            within = omega (arith, h.within);
-            steps = n;
-            few = omega (arith, h.few);
-            size = h.size;
-            logged = h.logged.1;
-          };
-          slice = refl;
-        },
-      )
+    pub added_back : (hs : List Step) → Tells es count log standing hs → get_or log top Added ≡ Added
+        → (1 ≤ count) × Back es es (count - 1) log top hs (attempt room hs TakeBack)
+    unfolding attempt graph
+    added_back [] h is = absurd (omega (arith, h.steps))
+    added_back (sourced r w ∷ hs) h is =
+        let no_way = sym is ∙ last (sourced r w) hs h ∙ h.logged.0 in
+        let z : ◌≡◌ {A = ℕ} 0 1 = cc in absurd (omega arith)
+    added_back (added t c l v ∷ hs) h is =
+        let n : top ≡ length hs = omega (arith, h.steps) in
+        let e = fresh t c l v in
+        let k = count - 1 in
+        let in_es : count ≤ length es = omega (arith, h.within) in
+        let some : 1 ≤ count = omega (arith, length_push (graph hs) e, ap length h.events, length-take-le count es in_es) in
+        let more : count ≡ k + 1 = omega arith in
+        let cut = h.events ∙ ap (λ m. take m es) more ∙ take_more es k absent (omega arith) in (
+          some,
+          record {
+            answer = ap Ok n;
+            tells = record {
+              events = (same_from_push (graph hs) (take k es) e (get_or es k absent) cut).0;
+              within = omega (arith, h.within);
+              steps = n;
+              few = omega (arith, h.few);
+              size = h.size;
+              logged = h.logged.1;
+            };
+            slice = refl;
+          },
+        )
 
-  pub sourced_back : (hs : List Step) → Tells es count log standing hs → 0 < standing → (r : ℕ) (f : Option ℕ) → get_or log (standing - 1) Added ≡ Sourced r f
-      → ((8 ≤ r) × (r - 8 < count)) × Back es (resource es r f) count log (standing - 1) hs (attempt room hs TakeBack)
-  unfolding attempt graph
-  sourced_back [] h pos r f is = absurd (omega (arith, h.steps))
-  sourced_back (added t c l v ∷ hs) h pos r f is =
-      let no_way = sym is ∙ last (added t c l v) hs h ∙ h.logged.0 in
-      let z : ◌≡◌ {A = ℕ} 0 1 = cc in absurd (omega arith)
-  sourced_back (sourced r₀ w ∷ hs) h pos r f is =
-      let n : standing - 1 ≡ length hs = omega (arith, h.steps) in
-      let g = graph hs in
-      let f₀ = (event g r₀).source in
-      let both : Sourced r f ≡ Sourced r₀ f₀ = sym is ∙ last (sourced r₀ w) hs h ∙ h.logged.0 in
-      let same-r : r₀ ≡ r = cc in
-      let same-f : f₀ ≡ f = cc in
-      let in_es : count ≤ length es = omega (arith, h.within) in
-      let low = h.logged.1.0 in
-      let long = sym (length-set g (r₀ - 8) (with_source (get_or g (r₀ - 8) absent) (Some w))) ∙ ap length h.events ∙ length-take-le count es in_es in
-      let high : r₀ - 8 < count = omega (arith, h.logged.1.1, low, long) in
-      let back : g ≡ take count (resource es r₀ f₀) = sym (resource_back g r₀ (Some w) low h.logged.1.1) ∙ ap (λ x. resource x r₀ f₀) h.events ∙ resource_take es count r₀ f₀ high in
-      let whole : ((8 ≤ r₀) × (r₀ - 8 < count)) × Back es (resource es r₀ f₀) count log (standing - 1) (sourced r₀ w ∷ hs) (record { answer = Ok (length hs); steps = hs }) = (
-        (low, high),
-        record {
-          answer = ap Ok n;
-          tells = record {
-            events = back;
-            within = omega (arith, h.within, length-set es (r₀ - 8) (with_source (get_or es (r₀ - 8) absent) f₀));
-            steps = n;
-            few = omega (arith, h.few);
-            size = h.size;
-            logged = h.logged.2;
-          };
-          slice = refl;
-        },
-      ) in
-      let P : ℕ → Option ℕ → Type 0 = λ q z. ((8 ≤ q) × (q - 8 < count)) × Back es (resource es q z) count log (standing - 1) (sourced r₀ w ∷ hs) (record { answer = Ok (length hs); steps = hs }) in
-      subst (P r) same-f (subst (λ q. P q f₀) same-r whole)
-
-  -- the same at the slice as it is then
-  pub sourced_then : (hs : List Step) → Tells es count log standing hs → 0 < standing → (r : ℕ) (f : Option ℕ) → get_or log (standing - 1) Added ≡ Sourced r f
-      → (es' : List Event) → es' ≡ resource es r f → Back es es' count log (standing - 1) hs (attempt room hs TakeBack)
-  sourced_then hs h pos r f is es' e = subst (λ z. Back es z count log (standing - 1) hs (attempt room hs TakeBack)) (sym e) (sourced_back hs h pos r f is).1
+    pub sourced_back : (hs : List Step) → Tells es count log standing hs → (r : ℕ) (f : Option ℕ) → get_or log top Added ≡ Sourced r f
+        → ((8 ≤ r) × (r - 8 < count)) × Back es (resource es r f) count log top hs (attempt room hs TakeBack)
+    unfolding attempt graph
+    sourced_back [] h r f is = absurd (omega (arith, h.steps))
+    sourced_back (added t c l v ∷ hs) h r f is =
+        let no_way = sym is ∙ last (added t c l v) hs h ∙ h.logged.0 in
+        let z : ◌≡◌ {A = ℕ} 0 1 = cc in absurd (omega arith)
+    sourced_back (sourced r₀ w ∷ hs) h r f is =
+        let n : top ≡ length hs = omega (arith, h.steps) in
+        let g = graph hs in
+        let f₀ = (event g r₀).source in
+        let both : Sourced r f ≡ Sourced r₀ f₀ = sym is ∙ last (sourced r₀ w) hs h ∙ h.logged.0 in
+        let same-r : r₀ ≡ r = cc in
+        let same-f : f₀ ≡ f = cc in
+        let in_es : count ≤ length es = omega (arith, h.within) in
+        let low = h.logged.1.0 in
+        let long = sym (length-set g (r₀ - 8) (with_source (get_or g (r₀ - 8) absent) (Some w))) ∙ ap length h.events ∙ length-take-le count es in_es in
+        let high : r₀ - 8 < count = omega (arith, h.logged.1.1, low, long) in
+        let back : g ≡ take count (resource es r₀ f₀) = sym (resource_back g r₀ (Some w) low h.logged.1.1) ∙ ap (λ x. resource x r₀ f₀) h.events ∙ resource_take es count r₀ f₀ high in
+        let whole : ((8 ≤ r₀) × (r₀ - 8 < count)) × Back es (resource es r₀ f₀) count log top (sourced r₀ w ∷ hs) (record { answer = Ok (length hs); steps = hs }) = (
+          (low, high),
+          record {
+            answer = ap Ok n;
+            tells = record {
+              events = back;
+              within = omega (arith, h.within, length-set es (r₀ - 8) (with_source (get_or es (r₀ - 8) absent) f₀));
+              steps = n;
+              few = omega (arith, h.few);
+              size = h.size;
+              logged = h.logged.2;
+            };
+            slice = refl;
+          },
+        ) in
+        let P : ℕ → Option ℕ → Type 0 = λ q z. ((8 ≤ q) × (q - 8 < count)) × Back es (resource es q z) count log top (sourced r₀ w ∷ hs) (record { answer = Ok (length hs); steps = hs }) in
+        subst (P r) same-f (subst (λ q. P q f₀) same-r whole)
 
 pub undone_none : (es : List Event) (count : ℕ) (log : List Undo) (hs : List Step) → (standing : ℕ) → Tells es count log standing hs → standing ≡ 0 → es ≡ undone hs es
 undone_none es count log [] standing h z = refl

@@ -1,7 +1,9 @@
 // What an event is: a read, a write or a fence, and its mode.
 ghost use Rattle.std.specs.Prelude.{◌≡◌, Some};
 ghost use Rattle.std.specs.List.{slice_get};
-ghost use Rattle.graph.specs.Codes.{codes, is_read, is_write, is_fence, is_access};
+ghost use Rattle.graph.specs.Codes.{codes, numbered, is_read, is_write, is_fence, is_access};
+
+use crate::refusal::Refusal;
 
 #[derive(Clone, Copy, PartialEq, Eq, Debug)]
 pub enum ReadMode {
@@ -33,27 +35,32 @@ pub enum Code {
     Fence(FenceMode),
 }
 
-impl Code {
-    /// The code of a number, where it has one: 0 to 10.
-    pub fn from_number(number: u8) -> Option<Code>
-        ensures { result ≡ slice_get codes number }
-    {
+/// The code of a number: 0 to 10.
+impl TryFrom<u8> for Code {
+    type Error = Refusal;
+
+    ghost try_from_gives = { λ number r. r ≡ numbered number };
+
+    fn try_from(number: u8) -> Result<Code, Refusal> {
         match number {
-            0 => Some(Code::Read(ReadMode::Na)),
-            1 => Some(Code::Read(ReadMode::Rlx)),
-            2 => Some(Code::Read(ReadMode::Acq)),
-            3 => Some(Code::Read(ReadMode::Sc)),
-            4 => Some(Code::Write(WriteMode::Na)),
-            5 => Some(Code::Write(WriteMode::Rlx)),
-            6 => Some(Code::Write(WriteMode::Rel)),
-            7 => Some(Code::Write(WriteMode::Sc)),
-            8 => Some(Code::Fence(FenceMode::Acq)),
-            9 => Some(Code::Fence(FenceMode::Rel)),
-            10 => Some(Code::Fence(FenceMode::Sc)),
-            _ => None,
+            0 => Ok(Code::Read(ReadMode::Na)),
+            1 => Ok(Code::Read(ReadMode::Rlx)),
+            2 => Ok(Code::Read(ReadMode::Acq)),
+            3 => Ok(Code::Read(ReadMode::Sc)),
+            4 => Ok(Code::Write(WriteMode::Na)),
+            5 => Ok(Code::Write(WriteMode::Rlx)),
+            6 => Ok(Code::Write(WriteMode::Rel)),
+            7 => Ok(Code::Write(WriteMode::Sc)),
+            8 => Ok(Code::Fence(FenceMode::Acq)),
+            9 => Ok(Code::Fence(FenceMode::Rel)),
+            10 => Ok(Code::Fence(FenceMode::Sc)),
+            _ => Err(Refusal::CodeTooHigh),
         }
     }
+}
 
+impl Code {
+    // Written out, since a code is a kind that holds a mode and so has no discriminant of its own.
     /// The number of a code.
     pub fn number(self) -> u8
         ensures { slice_get codes result ≡ Some self }

@@ -37,17 +37,12 @@ impl Event {
     pub fn fresh(thread: u8, code: Code, location: u8, value: u32) -> Event
         ensures { result ≡ fresh thread code location value }
     {
-        let source = match code {
-            Code::Read(_) => Some(location),
-            Code::Write(_) => None,
-            Code::Fence(_) => None,
-        };
         Event {
             thread,
             code,
             location,
             value,
-            source,
+            source: code.is_read().then_some(location),
         }
     }
 }

@@ -3,7 +3,6 @@
 #![tactic(auto)]
 
 pub mod call;
-mod checks;
 pub mod code;
 pub mod event;
 pub mod graph;

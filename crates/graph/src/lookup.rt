@@ -11,10 +11,5 @@ pub fn event_at(events: &[Event], number: u8) -> Option<Event>
     if number < INITIAL {
         return Some(Event::initial(number));
     }
-    let at = (number - INITIAL) as usize;
-    if at < events.len() {
-        Some(events[at])
-    } else {
-        None
-    }
+    events.get((number - INITIAL) as usize).copied()
 }

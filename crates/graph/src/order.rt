@@ -3,27 +3,22 @@ ghost use Rattle.std.specs.Prelude.{Decides};
 ghost use Rattle.graph.specs.Order.{Po, Rf};
 
 use crate::event::{Event, INITIAL};
+use crate::lookup::event_at;
 
 /// Does `a` precede `b` in program order? An initial write precedes every added event, and the
 /// added events of one thread stand in the order of their addition.
 pub fn precedes(events: &[Event], a: u8, b: u8) -> bool
     ensures { Decides result (Po events.now a b) }
 {
-    if b < INITIAL || b as usize >= events.len() + INITIAL as usize || a >= b {
+    let (Some(earlier), Some(later)) = (event_at(events, a), event_at(events, b)) else {
         return false;
-    }
-    a < INITIAL || events[(a - INITIAL) as usize].thread == events[(b - INITIAL) as usize].thread
+    };
+    b >= INITIAL && a < b && (a < INITIAL || earlier.thread == later.thread)
 }
 
 /// Does `read` take its value from `write`?
 pub fn reads_from(events: &[Event], write: u8, read: u8) -> bool
     ensures { Decides result (Rf events.now write read) }
 {
-    if read < INITIAL || read as usize >= events.len() + INITIAL as usize {
-        return false;
-    }
-    match events[(read - INITIAL) as usize].source {
-        Some(source) => source == write,
-        None => false,
-    }
+    event_at(events, read).and_then(|event| event.source) == Some(write)
 }

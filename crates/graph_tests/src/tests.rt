@@ -31,10 +31,7 @@ fn source(read: u8, write: u8) -> Call {
 
 // An answer, or the number of the refusal.
 fn numbered(answer: Result<u16, Refused>) -> Result<u16, u8> {
-    match answer {
-        Ok(n) => Ok(n),
-        Err(refused) => Err(refused.refusal.number()),
-    }
+    answer.map_err(|refused| refused.refusal.number())
 }
 
 // Makes the calls of the table one after another, each of which has to give its answer.
@@ -204,13 +201,11 @@ fn equal_graphs(rt: HostRuntime) {
 fn words_of_a_refusal(rt: HostRuntime) -> Result<(), Fail> {
     let mut none: [Event; 0] = [];
     let mut graph = Graph::new(&mut none);
-    match graph.take_back() {
-        Ok(_) => Err(Fail::new("there is no step to take back")),
-        Err(refused) => {
-            assert_eq!(rt; refused, Refused::plain(refused.refusal));
-            let text = refused.refusal.to_string(rt.alloc())?;
-            assert_eq!(rt; text.as_str(), "no step stands");
-            Ok(())
-        }
-    }
+    let Err(refused) = graph.take_back() else {
+        return Err(Fail::new("there is no step to take back"));
+    };
+    assert_eq!(rt; refused, Refused::plain(refused.refusal));
+    let text = refused.refusal.to_string(rt.alloc())?;
+    assert_eq!(rt; text.as_str(), "no step stands");
+    Ok(())
 }

@@ -1,37 +1,31 @@
 // A script of calls on a graph: each answer, the drawing, the pairs of the profile, and source cycles.
-use anyhow::bail;
-use axioms::relation::draw;
-use axioms::source_steps::SourceSteps;
-use cycles::shortest::shortest_cycle;
-use graph::code::{Code, ReadMode};
+use anyhow::anyhow;
+use axioms::source_cycle::source_cycle;
 use graph::event::{Event, INITIAL};
-use graph::graph::Graph;
-use graph::order::precedes;
+use graph::graph::{Graph, MOST_EVENTS};
 use measures::settling::LARGEST;
 use reports::drawing;
 use reports::options::{Options, ProfileName};
-use reports::pairs::RulePair;
+use reports::pairs::{RulePair, StrictPair};
 use reports::script::read_call;
+use std::fmt;
 
 /// Reads the script from standard input, performs it and prints the report.
 pub fn run_script(rt: &HostRuntime, options: Options) -> anyhow::Result<()> {
-    let mut records = [Event::fresh(0, Code::Read(ReadMode::Na), 0, 0); 56];
+    let mut records = [Event::initial(0); MOST_EVENTS];
     let mut graph = Graph::new(&mut records);
-    let mut number = 0u64;
-    for line in rt.lines(rt.alloc()) {
-        let text = line?;
-        number = number.saturating_add(1);
-        match read_call(text.as_str()) {
-            Ok(Some(call)) => match graph.perform(call) {
-                Ok(answer) => println!(rt; "answer {answer}")?,
-                Err(refused) => {
-                    let why = refused.refusal;
-                    let which = why.number();
-                    println!(rt; "refused {which}: {why}")?;
-                }
-            },
-            Ok(None) => {}
-            Err(why) => bail!("line {number}: {why}"),
+    for (line, number) in rt.lines(rt.alloc()).zip(1u64..) {
+        let call = read_call(line?.as_str()).map_err(|why| anyhow!("line {number}: {why}"))?;
+        let Some(call) = call else {
+            continue;
+        };
+        match graph.perform(call) {
+            Ok(answer) => println!(rt; "answer {answer}")?,
+            Err(refused) => {
+                let why = refused.refusal;
+                let which = why.number();
+                println!(rt; "refused {which}: {why}")?;
+            }
         }
     }
     report(rt, options, graph.events())
@@ -43,54 +37,41 @@ fn report(rt: &HostRuntime, options: Options, events: &[Event]) -> anyhow::Resul
     print!(rt; "{drawing}")?;
     if options.pairs {
         println!(rt; "")?;
+        println!(rt; "pairs of added events under {}:", options.profile)?;
         match options.profile {
-            ProfileName::Jam21 => print_rules(rt, events)?,
-            ProfileName::Strict => print_order(rt, events)?,
+            ProfileName::Jam21 => print_pairs(rt, events, |a, b| RulePair::of(events, a, b))?,
+            ProfileName::Strict => print_pairs(rt, events, |a, b| StrictPair::of(events, a, b))?,
         }
     }
     println!(rt; "")?;
     print_source_cycle(rt, events)
 }
 
-// The pairs of added events that JAM21 keeps, with the rules that keep them.
-fn print_rules(rt: &HostRuntime, events: &[Event]) -> anyhow::Result<()> {
-    println!(rt; "pairs of added events under jam21:")?;
-    let end = end_of(events);
+// A line for each pair of added events of which `pair_of` tells something.
+fn print_pairs<P: fmt::Display + Drop, F: Fn(u8, u8) -> Option<P>>(
+    rt: &HostRuntime,
+    events: &[Event],
+    pair_of: F,
+) -> anyhow::Result<()>
+    requires { F.IsAlwaysCallable pair_of }
+{
+    let end = events.len().min(MOST_EVENTS) as u8 + INITIAL;
     for a in INITIAL..end {
-        for b in INITIAL..end {
-            if let Some(pair) = RulePair::of(events, a, b) {
-                println!(rt; "{pair}")?;
-            }
-        }
-    }
-    Ok(())
-}
-
-// The pairs of added events under the strict profile, which are those of program order.
-fn print_order(rt: &HostRuntime, events: &[Event]) -> anyhow::Result<()> {
-    println!(rt; "pairs of added events under strict:")?;
-    let end = end_of(events);
-    for a in INITIAL..end {
-        for b in INITIAL..end {
-            if precedes(events, a, b) {
-                println!(rt; "{a} -> {b} kept, pushed")?;
-            }
+        for pair in (INITIAL..end).filter_map(|b| pair_of(a, b)) {
+            println!(rt; "{pair}")?;
         }
     }
     Ok(())
 }
 
 fn print_source_cycle(rt: &HostRuntime, events: &[Event]) -> anyhow::Result<()> {
-    let mut steps = [0u8; 4096];
-    let mut cycle = [0u8; 64];
-    let _ = draw(&SourceSteps { events }, &mut steps, LARGEST);
-    match shortest_cycle(&steps, LARGEST, &mut cycle) {
+    let mut cycle = [0u8; LARGEST];
+    match source_cycle(events, &mut cycle) {
         Ok(Some(count)) => {
             println!(rt;
                 "program order with reads-from has a cycle; the shortest has {count} steps:"
             )?;
-            for at in 0..count.min(64) {
-                let event = cycle[at];
+            for event in cycle.iter().take(count) {
                 print!(rt; "{event} -> ")?;
             }
             let first = cycle[0];
@@ -99,9 +80,4 @@ fn print_source_cycle(rt: &HostRuntime, events: &[Event]) -> anyhow::Result<()> 
         _ => println!(rt; "program order with reads-from has no cycle")?,
     }
     Ok(())
-}
-
-// One past the number of the last added event.
-fn end_of(events: &[Event]) -> u8 {
-    events.len().min(56) as u8 + INITIAL
 }

@@ -4,7 +4,7 @@
 mod graphs;
 mod lists;
 
-use anyhow::bail;
+use anyhow::{anyhow, bail};
 use reports::options::{BadOption, HELP, Input, Options};
 use std::env;
 
@@ -25,30 +25,23 @@ fn run(rt: &HostRuntime) -> anyhow::Result<()> {
 }
 
 fn read_options(rt: &HostRuntime) -> anyhow::Result<Options> {
-    let mut options = Options::new();
-    let mut words = env::args(rt)?;
+    let mut options = Options::default();
     // The first word is the program's own name.
-    let _ = words.next();
-    let mut named = true;
-    for word in words {
-        let text = word.as_str();
-        let more = if !named {
-            named = true;
-            options.with_profile(text)
-        } else if text == "--profile" {
-            named = false;
-            Ok(options)
+    let mut words = env::args(rt)?.skip(1);
+    while let Some(word) = words.next() {
+        if word.as_str() == "--profile" {
+            let name = words
+                .next()
+                .ok_or(BadOption::NoProfile)
+                .map_err(|why| anyhow!("{why}"))?;
+            options = options
+                .with_profile(name.as_str())
+                .map_err(|why| anyhow!("{name}: {why}"))?;
         } else {
-            options.with(text)
-        };
-        options = match more {
-            Ok(known) => known,
-            Err(why) => bail!("{word}: {why}"),
-        };
-    }
-    if !named {
-        let why = BadOption::NoProfile;
-        bail!("{why}");
+            options = options
+                .with(word.as_str())
+                .map_err(|why| anyhow!("{word}: {why}"))?;
+        }
     }
     Ok(options)
 }

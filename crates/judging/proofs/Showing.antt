@@ -1,5 +1,5 @@
 -- Steps laid out from a cycle show it.
-use Rattle.std.proofs.Common.{◌≡◌, ℕ, ◌+◌, ◌-◌, ◌<◌, ◌≤◌, cond, List, [], ◌∷◌, length, get_or, take, sym, refl, ap, ◌∙◌, subst, inl, inr, add-one, arith}
+use Rattle.std.proofs.Common.{◌≡◌, ℕ, ◌+◌, ◌-◌, ◌<◌, cond, List, [], ◌∷◌, length, get_or, take, sym, refl, ap, ◌∙◌, subst, inl, inr, add-one, arith}
 use lib.ListN.{length-map}
 use Rattle.std.specs.List.{AllByRecursion}
 use Rattle.std.proofs.ByRecursion.{All-from_get_or}
@@ -14,8 +14,9 @@ use Rattle.sheets.specs.declared.step.Step.{Step}
 use Rattle.sheets.specs.declared.verdict.Verdict.{Verdict}
 use Rattle.sheets.specs.Truth.{Sound}
 use Rattle.sheets.specs.WellLaid.{froms, tos, turned}
+use Rattle.judging.specs.declared.steps.Steps.{Steps}
 use Rattle.judging.specs.Finding.{LeastChain}
-use Rattle.judging.specs.Laying.{next, Laid, LaidAt, no_step, name_of}
+use Rattle.judging.specs.Laying.{next, Laid, LaidAt, no_step, name_of, steps_of}
 
 length_turned : (vs : List ℕ) → length (turned vs) ≡ length vs
 length_turned [] = refl
@@ -34,36 +35,36 @@ turned_next (v ∷ vs) i h =
           ∙ sym (ap (λ b. cond b (get_or (v ∷ vs) (i + 1) 0) v) (le-ltb (i + 1) (length (v ∷ vs)) (omega arith)))
     ]
 
-module _ (N : ℕ → ℕ → NamedStep → Type 0) (vs : List ℕ) (xs : List Step) (room : length vs ≤ length xs) (laid : Laid N vs xs) where
-  whole : length (take (length vs) xs) ≡ length vs
-  whole = length-take-le (length vs) xs room
+module _ (N : ℕ → ℕ → NamedStep → Type 0) (vs : List ℕ) (s : Steps) (laid : Laid N vs s) where
+  whole : length (steps_of s) ≡ length vs
+  whole = ap (λ k. length (take k s.laid)) laid.count ∙ length-take-le (length vs) s.laid laid.room
 
-  at_place : (i : ℕ) → i < length vs → LaidAt N vs (get_or (take (length vs) xs) i no_step) i
-  at_place i h = subst (λ x. LaidAt N vs x i) (sym (get_or-take (length vs) xs i no_step h)) (laid i h)
+  at_place : (i : ℕ) → i < length vs → LaidAt N vs (get_or (steps_of s) i no_step) i
+  at_place i h = subst (λ x. LaidAt N vs x i) (sym (get_or-take s.count s.laid i no_step (omega (arith, laid.count)))) (laid.each i h)
 
-  pub laid_froms : froms (take (length vs) xs) ≡ vs
+  pub laid_froms : froms (steps_of s) ≡ vs
   laid_froms =
       ext_get_or 0 _ vs (length-map _ _ ∙ whole)
-      (λ i h. let k : i < length vs = omega (arith, length-map (take (length vs) xs) (λ (t : Step). t.from), whole) in
-      get_or-map (λ (t : Step). t.from) (take (length vs) xs) i no_step 0 (omega (arith, whole)) ∙ (at_place i k).from)
+      (λ i h. let k : i < length vs = omega (arith, length-map (steps_of s) (λ (t : Step). t.from), whole) in
+      get_or-map (λ (t : Step). t.from) (steps_of s) i no_step 0 (omega (arith, whole)) ∙ (at_place i k).from)
 
-  pub laid_tos : tos (take (length vs) xs) ≡ turned (froms (take (length vs) xs))
+  pub laid_tos : tos (steps_of s) ≡ turned (froms (steps_of s))
   laid_tos =
-      ext_get_or 0 (tos (take (length vs) xs)) (turned vs) (length-map _ _ ∙ whole ∙ sym (length_turned vs))
-      (λ i h. let k : i < length vs = omega (arith, length-map (take (length vs) xs) (λ (t : Step). t.to), whole) in
-      get_or-map (λ (t : Step). t.to) (take (length vs) xs) i no_step 0 (omega (arith, whole)) ∙ (at_place i k).to ∙ sym (turned_next vs i k))
+      ext_get_or 0 (tos (steps_of s)) (turned vs) (length-map _ _ ∙ whole ∙ sym (length_turned vs))
+      (λ i h. let k : i < length vs = omega (arith, length-map (steps_of s) (λ (t : Step). t.to), whole) in
+      get_or-map (λ (t : Step). t.to) (steps_of s) i no_step 0 (omega (arith, whole)) ∙ (at_place i k).to ∙ sym (turned_next vs i k))
       ∙ ap turned (sym laid_froms)
 
-  pub laid_all : (P : Step → Type 0) → ((x : Step) → N x.from x.to (name_of x) → P x) → AllByRecursion P (take (length vs) xs)
+  pub laid_all : (P : Step → Type 0) → ((x : Step) → N x.from x.to (name_of x) → P x) → AllByRecursion P (steps_of s)
   laid_all P each =
-      All-from_get_or P (take (length vs) xs) no_step
+      All-from_get_or P (steps_of s) no_step
       (λ i h. let at = at_place i (omega (arith, whole)) in
-      each _ (subst (λ p. N p (get_or (take (length vs) xs) i no_step).to (name_of (get_or (take (length vs) xs) i no_step))) (sym at.from)
-      (subst (λ q. N (get_or vs i 0) q (name_of (get_or (take (length vs) xs) i no_step))) (sym at.to) at.named)))
+      each _ (subst (λ p. N p (get_or (steps_of s) i no_step).to (name_of (get_or (steps_of s) i no_step))) (sym at.from)
+      (subst (λ q. N (get_or vs i 0) q (name_of (get_or (steps_of s) i no_step))) (sym at.to) at.named)))
 
   -- the steps of a shortest cycle
   pub laid_least : (R : ℕ → ℕ → Type 0) (m : Meaning) (es : List Event) (L : List ℕ) (v : Verdict) → Shortest R vs →
-      ((x : Step) → N x.from x.to (name_of x) → Sound m es L v x) → LeastChain R m es L v (take (length vs) xs)
+      ((x : Step) → N x.from x.to (name_of x) → Sound m es L v x) → LeastChain R m es L v (steps_of s)
   laid_least R m es L v short each = record {
     chain = record {
       some = omega (arith, whole, closed_some R vs short.cycle.closed);

@@ -1,13 +1,13 @@
 -- The steps of a closed chain of events, laid out one after the other.
 --
 --   SourceNamed es p q n    n names the step from p to q: by program order or reads-from, which holds
---   SomeTold s              some profile and list have their visibility told by the sight s
 --   SomeCo s p q            a step of coherence leads from p to q, for some profile and list whose visibility the sight s tells
 --   next vs i               the event after place i of vs, and behind the last the first
 --   step p q n              the step from p to q by the name n
 --   LaidAt N vs x i         x is the step from place i of vs, named as N says
---   Laid N vs xs            the first steps of xs are those of the chain vs, as many as vs has events
-use Rattle.std.specs.Prelude.{◌≡◌, ℕ, ◌+◌, ◌<◌, false, cond, List, length, nat_lt, slice_index, slice_index_or}
+--   steps_of s              the steps that s has
+--   Laid N vs s             the steps of s are those of the chain vs, one from each of its events
+use Rattle.std.specs.Prelude.{◌≡◌, ℕ, ◌+◌, ◌<◌, ◌≤◌, false, cond, List, length, take, nat_lt, slice_index, slice_index_or}
 use Rattle.graph.specs.declared.event.Event.{Event}
 use Rattle.profiles.specs.Meaning.{Meaning}
 use Rattle.coherence.specs.declared.naming.NamedStep.{NamedStep}
@@ -17,16 +17,12 @@ use Rattle.axioms.specs.Relations.{Holds, Co}
 use Rattle.axioms.specs.Rules.{is_coherence, Unused}
 use Rattle.coherence.specs.Visibility.{Told}
 use Rattle.sheets.specs.declared.step.Step.{Step}
+use Rattle.judging.specs.declared.steps.Steps.{Steps}
 
 pub record SourceNamed (es : List Event) (p q : ℕ) (n : NamedStep) : Type 0 where
   pub source : is_coherence n.rule ≡ false
   pub holds : (m : Meaning) (L : List ℕ) → Holds m es L n.rule p q n.reader n.second
   pub unused : Unused n.rule n.reader n.second
-
-pub record SomeTold (s : Sight) : Type 0 where
-  pub meaning : Meaning
-  pub list : List ℕ
-  pub told : Told meaning s.events.now list s.leads.now
 
 pub record SomeCo (s : Sight) (p q : ℕ) : Type 0 where
   pub meaning : Meaning
@@ -49,5 +45,10 @@ pub record LaidAt (N : ℕ → ℕ → NamedStep → Type 0) (vs : List ℕ) (x 
   pub to : x.to ≡ next vs i
   pub named : N (slice_index vs i) (next vs i) (name_of x)
 
-abbrev pub Laid : (ℕ → ℕ → NamedStep → Type 0) → List ℕ → List Step → Type 0
-Laid N vs xs = (i : ℕ) → i < length vs → LaidAt N vs (slice_index_or xs i no_step) i
+abbrev pub steps_of : Steps → List Step
+steps_of s = take s.count s.laid
+
+pub record Laid (N : ℕ → ℕ → NamedStep → Type 0) (vs : List ℕ) (s : Steps) : Type 0 where
+  pub count : s.count ≡ length vs
+  pub room : length vs ≤ length s.laid
+  pub each : (i : ℕ) → i < length vs → LaidAt N vs (slice_index_or s.laid i no_step) i

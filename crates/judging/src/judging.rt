@@ -3,12 +3,9 @@ ghost use Rattle.graph.specs.Holds.{added_events};
 ghost use Rattle.judging.specs.Judging.{Judges};
 
 use crate::finding::{Finding, find};
-use axioms::rule::Rule;
-use coherence::naming::UNUSED;
 use graph::graph::Graph;
 use graph::refusal::{Refusal, Refused};
 use profiles::profile::Profile;
-use sheets::step::Step;
 use sheets::writing::{LEAST_BUFFER, write_sheet};
 
 /// Judges a graph under a profile and a push order: writes its sheet to the front of `buffer` and answers the sheet's length.
@@ -27,16 +24,8 @@ pub fn judge<P: Profile>(
     ensures { Judges (P.meaning profile.now) (added_events graph.now) list.now buffer.old buffer.new result }
 {
     if buffer.len() < LEAST_BUFFER {
-        return Err(Refused::plain(Refusal::BufferTooShort));
+        return Err(Refusal::BufferTooShort.into());
     }
-    let blank = Step {
-        from: 0,
-        to: 0,
-        rule: Rule::ProgramOrder,
-        reader: UNUSED,
-        second: UNUSED,
-    };
-    let mut steps = [blank; 64];
-    let Finding { verdict, count } = find(graph.events(), profile, list, &mut steps)?;
-    write_sheet(verdict, list, &steps[0..count], buffer)
+    let Finding { verdict, steps } = find(graph, profile, list)?;
+    write_sheet(verdict, list, steps.as_slice(), buffer)
 }

@@ -1,5 +1,5 @@
 // The steps of a cycle as a sheet has them.
-ghost use Rattle.std.specs.Prelude.{◌≡◌, ℕ, ◌<◌, ◌≤◌, false, List, length};
+ghost use Rattle.std.specs.Prelude.{◌≡◌, ℕ, ◌<◌, ◌≤◌, List, length};
 ghost use Rattle.cycles.specs.Cycles.{Closed};
 ghost use Rattle.coherence.specs.declared.naming.NamedStep.{NamedStep};
 ghost use Rattle.axioms.specs.Relations.{SourceStep};
@@ -7,12 +7,14 @@ ghost use Rattle.coherence.specs.Sights.{Throughout};
 ghost use Rattle.coherence.specs.Naming.{Named};
 ghost use Rattle.judging.specs.Laying.{SourceNamed, SomeCo, Laid, next};
 
-use axioms::rule::Rule;
-use coherence::naming::{NamedStep, UNUSED};
+use crate::steps::{BLANK, Steps};
+use axioms::rule::{NO_READER, Rule};
+use coherence::naming::NamedStep;
 use coherence::sight::Sight;
 use graph::event::Event;
 use graph::order::precedes;
 use sheets::step::Step;
+use sheets::writing::MOST_STEPS;
 
 /// Names the steps of a relation by rule and readers.
 pub(crate) trait Namer {
@@ -44,8 +46,8 @@ impl Namer for SourceNamer<'_> {
         };
         NamedStep {
             rule,
-            reader: UNUSED,
-            second: UNUSED,
+            reader: NO_READER,
+            second: NO_READER,
         }
     }
 }
@@ -62,42 +64,45 @@ impl Namer for CoherenceNamer<'_, '_> {
     ghost named = { λ s p q n. Throughout s.sight (λ es m L. Named m es L p q n) };
 
     fn name(&self, from: u8, to: u8) -> NamedStep {
-        match self.sight.name_step(from, to) {
-            Some(step) => step,
-            None => unreachable(),
-        }
+        let Some(step) = self.sight.name_step(from, to) else {
+            unreachable()
+        };
+        step
     }
 }
 
-/// Lays a closed chain of events out as steps, at the front of `steps`.
-pub(crate) fn lay<N: Namer>(namer: &N, cycle: &[u8], steps: &mut [Step; 64])
+/// Lays a closed chain of events out as steps.
+pub(crate) fn lay<N: Namer>(namer: &N, cycle: &[u8]) -> Steps
     requires few { length cycle.now ≤ 64 }
     requires closed { Closed (N.related namer.now) cycle.now }
-    ensures { Laid (N.named namer.now) cycle.now steps.new }
+    ensures { Laid (N.named namer.now) cycle.now result }
 {
-    let count = cycle.len();
-    for i in 0..count {
-        let from = cycle[i];
-        let to = next_of(cycle, i);
-        let named = namer.name(from, to);
-        steps[i] = Step {
+    let mut laid = [BLANK; MOST_STEPS];
+    for (place, &from) in cycle.iter().enumerate() {
+        let to = next_of(cycle, place);
+        let NamedStep {
+            rule,
+            reader,
+            second,
+        } = namer.name(from, to);
+        laid[place] = Step {
             from,
             to,
-            rule: named.rule,
-            reader: named.reader,
-            second: named.second,
+            rule,
+            reader,
+            second,
         };
+    }
+    Steps {
+        laid,
+        count: cycle.len(),
     }
 }
 
 // The event after a place of a cycle, and behind the last the first.
-fn next_of(cycle: &[u8], i: usize) -> u8
-    requires { i < length cycle.now }
-    ensures { result ≡ next cycle.now i }
+fn next_of(cycle: &[u8], place: usize) -> u8
+    requires { place < length cycle.now }
+    ensures { result ≡ next cycle.now place }
 {
-    if i + 1 < cycle.len() {
-        cycle[i + 1]
-    } else {
-        cycle[0]
-    }
+    cycle.get(place + 1).copied().unwrap_or(cycle[0])
 }

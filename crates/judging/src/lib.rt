@@ -4,3 +4,4 @@
 mod finding;
 pub mod judging;
 mod laying;
+mod steps;

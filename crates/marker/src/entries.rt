@@ -20,8 +20,7 @@ pub fn perform_all(graph: &mut Graph<'_>, entries: &mut [Entry])
     ensures told { (hs : List Step) → Holds graph.old hs → Performed graph.old.events.now hs graph.new entries.old entries.new }
     ensures lent { graph.new.events.ghost_name ≡ graph.old.events.ghost_name }
 {
-    for i in 0..entries.len() {
-        let call = entries[i].call;
-        entries[i].answer = graph.perform(call);
+    for entry in entries {
+        entry.answer = graph.perform(entry.call);
     }
 }

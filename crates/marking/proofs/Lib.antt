@@ -6,5 +6,4 @@ pub mod Marked
 pub mod Once
 pub mod Parts
 pub mod Presence
-pub mod Seeing
 pub mod Truths

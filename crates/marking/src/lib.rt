@@ -7,7 +7,6 @@ ghost use Rattle.graph.specs.Holds.{added_events};
 ghost use Rattle.marking.specs.Marking.{Marks};
 ghost use Rattle.marking.specs.Passing.{Passes};
 
-use axioms::pairs::Pairs;
 use graph::event::INITIAL;
 use graph::graph::Graph;
 use graph::refusal::Refused;
@@ -33,11 +32,7 @@ pub fn mark<P: Profile>(graph: &Graph<'_>, profile: &P, sheet: &[u8]) -> Result<
     ensures only { (other : Result (Unit {0}) Refused) → Marks (P.meaning profile.now) (added_events graph.now) sheet.now other → other ≡ result }
     ensures told { MatchResult result (λ _. Passes (P.meaning profile.now) (added_events graph.now) sheet.now) (λ _. Passes (P.meaning profile.now) (added_events graph.now) sheet.now → ⊥) }
 {
-    let events = graph.events();
-    let present = events.len() as u8 + INITIAL;
+    let present = graph.events().len() as u8 + INITIAL;
     let layout = read_layout(sheet, present)?;
-    let Ok(pairs) = Pairs::ask(profile, events) else {
-        unreachable()
-    };
-    check_truth(events, &pairs, &layout)
+    check_truth(graph, profile, &layout)
 }

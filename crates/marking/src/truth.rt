@@ -1,9 +1,7 @@
 // Is what a sheet says true of a graph? The layout of the sheet is right.
 ghost use Rattle.std.specs.Prelude.{◌≡◌, ℕ, ◌+◌, ◌<◌, ◌≤◌, ◌⊎◌, List, [], ◌∷◌, length, IfSome, MatchBool, MatchOption};
 ghost use Rattle.std.specs.List.{flat_map};
-ghost use Rattle.graph.specs.Proper.{Proper};
-ghost use Rattle.profiles.specs.Meaning.{Meaning};
-ghost use Rattle.axioms.specs.Asked.{Asked};
+ghost use Rattle.graph.specs.Holds.{added_events};
 ghost use Rattle.axioms.specs.Orders.{Once};
 ghost use Rattle.axioms.specs.Relations.{CoherenceCycle};
 ghost use Rattle.coherence.specs.Sights.{Throughout};
@@ -13,70 +11,65 @@ ghost use Rattle.sheets.specs.declared.verdict.Verdict.TheVariants.{Clear};
 ghost use Rattle.sheets.specs.Steps.{step_bytes};
 ghost use Rattle.sheets.specs.Truth.{Ordered, TrueOf};
 ghost use Rattle.sheets.specs.WellLaid.{Told};
-ghost use Rattle.marking.specs.Marking.{order_part, AllHold, FirstFailing, HasSourceCycle, Unlawful, FailingStep, HasCoherenceCycle, Given, truth_checks};
+ghost use Rattle.marking.specs.Marking.{order_part, StepHolds, AllHold, FirstFailing, HasSourceCycle, Unlawful, FailingStep, HasCoherenceCycle, Given, truth_checks};
 ghost use Rattle.marking.specs.Passing.{Decided};
 
 use axioms::pairs::Pairs;
 use axioms::source_reach::SourceReach;
 use coherence::sight::Sight;
-use coherence::visibility::draw_visibility;
-use graph::event::Event;
+use coherence::visibility::Visibility;
+use graph::graph::Graph;
 use graph::refusal::{Refusal, Refused};
+use profiles::profile::Profile;
 use sheets::layout::Layout;
 use sheets::verdict::Verdict;
 
-// Checks the parts of a sheet against the graph with these events, which has at most 56 of them: so no table is refused.
-pub(crate) fn check_truth(
-    events: &[Event],
-    pairs: &Pairs,
+// Checks the parts of a sheet against a graph.
+pub(crate) fn check_truth<P: Profile>(
+    graph: &Graph<'_>,
+    profile: &P,
     layout: &Layout<'_>,
 ) -> Result<(), Refused>
-    requires few { length events.now ≤ 56 }
-    requires proper { Proper events.now }
-    requires asked { (m : Meaning) × Asked m events.now pairs.now }
-    requires counted { length layout.now.steps.now ≤ 1275 }
-    ensures { (m : Meaning) (bs : List ℕ) → Asked m events.now pairs.now → (t : Told (length events.now + 8) bs layout.now) → Decided (TrueOf m events.now t.sheet) (truth_checks m events.now bs (order_part bs)) result }
+    requires { length layout.now.steps.now ≤ 1275 }
+    ensures { (bs : List ℕ) → (t : Told (length (added_events graph.now) + 8) bs layout.now) → Decided (TrueOf (P.meaning profile.now) (added_events graph.now) t.sheet) (truth_checks (P.meaning profile.now) (added_events graph.now) bs (order_part bs)) result }
 {
-    if !pairs.is_push_order(layout.order) {
-        return Err(Refused::plain(Refusal::NotThePushingEvents));
-    }
-    if denies_source_cycle(layout.verdict) {
-        check_order(events, layout.order)?;
-    }
-    let side = pairs.side();
-    let mut table = [0; 4096];
-    let leads = &mut table[0..side * side];
-    let Ok(()) = draw_visibility(events, pairs.kept(), pairs.pushed(), layout.order, leads) else {
+    let events = graph.events();
+    // A graph has at most 56 events, so no table is refused.
+    let Ok(pairs) = Pairs::ask(profile, events) else {
         unreachable()
     };
-    check_steps(&Sight { events, leads }, layout)
+    if !pairs.is_push_order(layout.order) {
+        return Err(Refusal::NotThePushingEvents.into());
+    }
+    if denies_source_cycle(layout.verdict) {
+        check_order(graph, layout.order)?;
+    }
+    let Ok(visibility) = Visibility::of(events, pairs.kept(), pairs.pushed(), layout.order) else {
+        unreachable()
+    };
+    check_steps(&visibility.sight(), layout)
 }
 
 // Does a sheet of this verdict say that there is no source cycle? Only then does the order of its list matter.
 fn denies_source_cycle(verdict: Verdict) -> bool
     ensures { MatchBool result ((verdict ≡ Verdict.Clear) ⊎ (verdict ≡ Verdict.CoherenceCycle)) (verdict ≡ Verdict.SourceCycle) }
 {
-    match verdict {
-        Verdict::SourceCycle => false,
-        Verdict::Clear | Verdict::CoherenceCycle => true,
-    }
+    matches!(verdict, Verdict::Clear | Verdict::CoherenceCycle)
 }
 
 // Checks that there is no source cycle, and that a list is lawful.
-fn check_order(events: &[Event], list: &[u8]) -> Result<(), Refused>
-    requires few { length events.now ≤ 56 }
-    requires proper { Proper events.now }
-    requires once { Once list.now }
-    ensures { Decided (Ordered events.now list.now) (HasSourceCycle events.now ∷ Unlawful events.now list.now ∷ []) result }
+fn check_order(graph: &Graph<'_>, list: &[u8]) -> Result<(), Refused>
+    requires { Once list.now }
+    ensures { Decided (Ordered (added_events graph.now) list.now) (HasSourceCycle (added_events graph.now) ∷ Unlawful (added_events graph.now) list.now ∷ []) result }
 {
-    let Ok(reach) = SourceReach::of(events) else {
+    let Ok(reach) = SourceReach::of(graph.events()) else {
         unreachable()
     };
     if reach.has_cycle() {
-        return Err(Refused::plain(Refusal::WrongVerdict));
+        return Err(Refusal::WrongVerdict.into());
     }
     if !reach.is_lawful(list) {
-        return Err(Refused::plain(Refusal::NotLawful));
+        return Err(Refusal::NotLawful.into());
     }
     Ok(())
 }
@@ -106,13 +99,22 @@ fn first_failing(sight: &Sight<'_, '_>, layout: &Layout<'_>) -> Option<u8>
     ensures low { IfSome result (λ k. k < 255) }
     ensures told { Throughout sight.now (λ es m L. (ts : List Step) → layout.now.steps.now ≡ flat_map step_bytes ts → MatchOption result (AllHold m es L (flat_map step_bytes ts) (length ts)) (FirstFailing m es L (flat_map step_bytes ts) (length ts))) }
 {
-    for place in 0..255u8 {
-        let step = layout.step(place as usize)?;
-        if !sight.holds(step.rule, step.from, step.to, step.reader, step.second) {
-            return Some(place);
-        }
-    }
-    None
+    let count = layout.count() as u8;
+    (0..count).find(
+        |&place|
+            ensures { Throughout sight.entry.now (λ es m L. MatchBool result (StepHolds m es L layout.entry.now.steps.now place → ⊥) (StepHolds m es L layout.entry.now.steps.now place)) }
+        { fails(sight, layout, place) },
+    )
+}
+
+// Is it wrong that the step at a place holds by its rule? It is where no step stands, too.
+fn fails(sight: &Sight<'_, '_>, layout: &Layout<'_>, place: u8) -> bool
+    ensures { Throughout sight.now (λ es m L. MatchBool result (StepHolds m es L layout.now.steps.now place → ⊥) (StepHolds m es L layout.now.steps.now place)) }
+{
+    let Some(step) = layout.step(usize::from(place)) else {
+        return true;
+    };
+    !sight.holds(step.rule, step.from, step.to, step.reader, step.second)
 }
 
 // Checks that there is no coherence cycle.
@@ -124,7 +126,7 @@ fn check_clear(sight: &Sight<'_, '_>) -> Result<(), Refused>
         unreachable()
     };
     if has_cycle {
-        return Err(Refused::plain(Refusal::WrongVerdict));
+        return Err(Refusal::WrongVerdict.into());
     }
     Ok(())
 }

@@ -1,145 +1,154 @@
 -- What one write, one row and one round make of a table.
-use Rattle.std.proofs.Common.{◌≡◌, ℕ, ◌+◌, ◌*◌, ◌<◌, ◌≤◌, ◌⊎◌, List, length, get_or, set, sym, refl, ◌∙◌, subst, inl, inr, arith}
-use Rattle.std.proofs.lemmas.Bool.{cases_lt}
+use Rattle.std.proofs.Common.{◌≡◌, ℕ, ◌+◌, ◌-◌, ◌*◌, ◌<◌, ◌≤◌, ◌⊎◌, List, ◌++◌, length, take, drop, get_or, set, refl, sym, ap, ◌∙◌, subst, inl, inr, mul-le-mul, arith, length-drop}
+use Rattle.std.proofs.lemmas.Bool.{cases_lt, cases_order}
+use Rattle.std.proofs.lemmas.List.{length-take-le}
+use borrow.Rule.Slice.PartMut.{mid_of, post_of, put_mid}
 use Rattle.measures.specs.Laws.{Laws}
 use Rattle.measures.specs.Paths.{entry}
-use Rattle.measures.specs.Rounds.{relaxed, RowRelaxed, RowsRelaxed}
+use Rattle.measures.specs.Rounds.{cell, relaxed, RowRelaxed, RowsRelaxed, RoundDone}
 use Rattle.measures.proofs.Rounds.{row_stays}
-use Rattle.measures.proofs.Tables.{place_in, entry_read, entry_set_same, entry_set_other, entry_at}
+use Rattle.measures.proofs.Tables.{cell_read, cell_set_same, cell_set_other, cell_left, cell_right, cell_front, cell_part, cell_after}
 
-module _ {V W : Type 0} (means : V → W) (none : W) (joined better : W → W → W) (n k i j : ℕ) (xs ys : List V) (there on old new : V)
-    (square : length ys ≡ n * n)
-    (kn : k < n)
-    (in' : i < n)
-    (jn : j < n)
-    (so_far : RowRelaxed joined better n k i j (entry means none n xs) (entry means none n ys))
-    (is-there : entry means none n xs i k ≡ means there)
-    (is-on : on ≡ get_or ys (k * n + j) on)
-    (is-old : old ≡ get_or ys (i * n + j) old)
-    (made : means new ≡ better (means old) (joined (means there) (means on)))
-  where
-    within_at : i * n + j < length ys
-    within_at = rw square (place_in in' jn)
+module _ {V W : Type 0} (means : V → W) {none here : W} {joined better : W → W → W} (laws : Laws none here joined better) where
+  -- The first j values of a row are written, and the others are as they were.
+  pub record RowTo (there : W) (old on new : List V) (j : ℕ) : Type 0 where
+    pub done : RowRelaxed joined better j there (cell means none old) (cell means none on) (cell means none new)
+    pub rest : (k : ℕ) → j ≤ k → cell means none new k ≡ cell means none old k
 
-    within_on : k * n + j < length ys
-    within_on = rw square (place_in kn jn)
-
-    here_now : entry means none n (set ys (i * n + j) new) i j ≡ relaxed joined better (entry means none n xs) k i j
-    here_now =
-        let was-on = entry_read means none n ys k j on within_on is-on in
-        let was-old = entry_read means none n ys i j old within_at is-old in
-        let same-on = so_far.rest k j kn jn (inr (omega arith)) in
-        let same_old = so_far.rest i j in' jn (inr (omega arith)) in
-        let put = entry_set_same means none n ys i j new within_at in
-        cc
-
-    done_next : (b : ℕ) → b < j + 1 → entry means none n (set ys (i * n + j) new) i b ≡ relaxed joined better (entry means none n xs) k i b
-    done_next b h =
-        elim (cases_lt b j) [
-          | inl l ↦ entry_set_other means none n ys i j i b new jn (omega arith) (λ _ e. omega arith) ∙ so_far.done b l
-          | inr l ↦
-              let same : j ≡ b = omega arith in
-              subst (λ c. entry means none n (set ys (i * n + j) new) i c ≡ relaxed joined better (entry means none n xs) k i c) same here_now
-        ]
-
-    rest_next : (a b : ℕ) → a < n → b < n → ((a ≡ i → ⊥) ⊎ (j + 1 ≤ b)) → entry means none n (set ys (i * n + j) new) a b ≡ entry means none n xs a b
-    rest_next a b p q (inl apart) =
-        entry_set_other means none n ys i j a b new jn q (λ e _. apart e) ∙ so_far.rest a b p q (inl apart)
-    rest_next a b p q (inr past) =
-        entry_set_other means none n ys i j a b new jn q (λ _ e. omega arith) ∙ so_far.rest a b p q (inr (omega arith))
-
-    pub row_more : RowRelaxed joined better n k i (j + 1) (entry means none n xs) (entry means none n (set ys (i * n + j) new))
-    row_more = record { done = done_next; rest = rest_next }
-
--- No row yet.
-pub rows_none : {W : Type 0} {joined better : W → W → W} {n k from : ℕ} (t : ℕ → ℕ → W) → RowsRelaxed joined better n k from from t t
-rows_none t = record {
-  done = λ a b l p q. absurd (omega arith);
-  rest = λ a b p q o. refl;
-}
-
--- One row more.
-module _ {W : Type 0} {none here : W} {joined better : W → W → W} (laws : Laws none here joined better) (n k from i : ℕ) (t₀ t₁ t₂ : ℕ → ℕ → W)
-    (kn : k < n)
-    (in' : i < n)
-    (so_far : RowsRelaxed joined better n k from i t₀ t₁)
-    (row : RowRelaxed joined better n k i n t₁ t₂)
-  where
-    row_k_same : (b : ℕ) → b < n → t₁ k b ≡ t₀ k b
-    row_k_same b q =
-        elim (cases_lt k from) [
-          | inl l ↦ so_far.rest k b kn q (inl l)
-          | inr l ↦ elim (cases_lt k i) [
-            | inl h ↦ so_far.done k b l h q ∙ row_stays laws t₀ k b
-            | inr h ↦ so_far.rest k b kn q (inr h)
-          ]
-        ]
-
-    row_now : (b : ℕ) → b < n → t₂ i b ≡ relaxed joined better t₀ k i b
-    row_now b q =
-        let made = row.done b q in
-        let same-b = so_far.rest i b in' q (inr (omega arith)) in
-        let same-k = so_far.rest i k in' kn (inr (omega arith)) in
-        let same-on = row_k_same b q in
-        cc
-
-    rows_done : (a b : ℕ) → from ≤ a → a < i + 1 → b < n → t₂ a b ≡ relaxed joined better t₀ k a b
-    rows_done a b l p q =
-        elim (cases_lt a i) [
-          | inl h ↦ row.rest a b (omega arith) q (inl (λ e. omega arith)) ∙ so_far.done a b l h q
-          | inr h ↦ let same : i ≡ a = omega arith in subst (λ c. t₂ c b ≡ relaxed joined better t₀ k c b) same (row_now b q)
-        ]
-
-    rows_rest : from ≤ i → (a b : ℕ) → a < n → b < n → ((a < from) ⊎ (i + 1 ≤ a)) → t₂ a b ≡ t₀ a b
-    rows_rest f a b p q (inl l) = row.rest a b p q (inl (λ e. omega arith)) ∙ so_far.rest a b p q (inl l)
-    rows_rest f a b p q (inr l) = row.rest a b p q (inl (λ e. omega arith)) ∙ so_far.rest a b p q (inr (omega arith))
-
-    pub rows_more : from ≤ i → RowsRelaxed joined better n k from (i + 1) t₀ t₂
-    rows_more f = record { done = rows_done; rest = rows_rest f }
-
--- The rows before k and those behind it are all the rows.
-pub rows_all : {W : Type 0} {none here : W} {joined better : W → W → W} (laws : Laws none here joined better) (n k : ℕ) (t₀ t₁ t₂ : ℕ → ℕ → W) → k < n →
-    RowsRelaxed joined better n k 0 k t₀ t₁ → RowsRelaxed joined better n k (k + 1) n t₁ t₂ → RowsRelaxed joined better n k 0 n t₀ t₂
-rows_all {W} {none} {here} {joined} {better} laws n k t₀ t₁ t₂ kn front back = record {
-  done = λ a b z p q.
-      elim (cases_lt a k) [
-        | inl l ↦ back.rest a b p q (inl (omega arith)) ∙ front.done a b z l q
-        | inr l ↦ elim (cases_lt k a) [
-          | inl h ↦
-              let made = back.done a b (omega arith) p q in
-              let same-b = front.rest a b p q (inr l) in
-              let same-k = front.rest a k p kn (inr l) in
-              let same-on = front.rest k b kn q (inr (omega arith)) in
-              cc
-          | inr h ↦
-              let same : k ≡ a = omega arith in
-              subst (λ c. t₂ c b ≡ relaxed joined better t₀ k c b) same
-              (back.rest k b kn q (inl (omega arith)) ∙ front.rest k b kn q (inr (omega arith)) ∙ sym (row_stays laws t₀ k b))
-        ]
+  pub row_more : (there : W) (old on now : List V) (j : ℕ) (was step made : V) → j < length now → j < length on →
+      was ≡ get_or now j was → step ≡ get_or on j step → means made ≡ better (means was) (joined there (means step)) →
+      RowTo there old on now j → RowTo there old on (set now j made) (j + 1)
+  row_more there old on now j was step made in_row in_on is-was is-step is-made t = record {
+    done = record {
+      done = λ k h. elim (cases_lt k j) [
+        | inl l ↦ cell_set_other means none now j k made (omega arith) ∙ t.done.done k l
+        | inr l ↦
+            let same : j ≡ k = omega arith in
+            let put = cell_set_same means none now j made in_row in
+            let before = cell_read means none now j was in_row is-was in
+            let on_j = cell_read means none on j step in_on is-step in
+            let kept = t.rest j (omega arith) in
+            subst (λ i. cell means none (set now j made) i ≡ better (cell means none old i) (joined there (cell means none on i))) same cc
       ];
-  rest = λ a b p q o. absurd (elim o [ inl l ↦ omega arith | inr l ↦ omega arith ]);
-}
+    };
+    rest = λ k h. cell_set_other means none now j k made (omega arith) ∙ t.rest k (omega arith);
+  }
 
--- A row whose way to k is none is relaxed as it stands.
-pub row_cut_off : {W : Type 0} {none here : W} {joined better : W → W → W} (laws : Laws none here joined better) (n k i : ℕ) (t : ℕ → ℕ → W) →
-    t i k ≡ none → RowRelaxed joined better n k i n t t
-row_cut_off laws n k i t cut = record {
-  done = λ b q. cc (laws.none_joined (t k b), laws.better_none (t i b));
-  rest = λ a b p q o. refl;
-}
+  -- A row whose way to the vertex is none is relaxed as it stands.
+  pub row_cut_off : (count : ℕ) (there : W) (old on : ℕ → W) → there ≡ none → RowRelaxed joined better count there old on old
+  row_cut_off count there old on cut = record { done = λ j h. cc (laws.none_joined (on j), laws.better_none (old j)) }
 
--- One write, with the places as the code has them.
-pub row_write : {V W : Type 0} (means : V → W) {none here : W} {joined better : W → W → W} (laws : Laws none here joined better) (n k i j : ℕ) (xs ys : List V) (there on old new : V) (from to at : ℕ) →
-    length xs ≡ n * n → length ys ≡ n * n → k < n → i < n → j < n →
-    from ≡ i * n + k → to ≡ k * n + j → at ≡ i * n + j →
-    RowRelaxed joined better n k i j (entry means none n xs) (entry means none n ys) →
-    there ≡ get_or xs from there → on ≡ get_or ys to on → old ≡ get_or ys at old →
-    means new ≡ better (means old) (joined (means there) (means on)) →
-    RowRelaxed joined better n k i (j + 1) (entry means none n xs) (entry means none n (set ys at new))
-row_write means {none} {here} {joined} {better} laws n k i j xs ys there on old new from to at was square kn in' jn e₁ e₂ e₃ so_far r₁ r₂ r₃ made =
-    rw e₃
-    (row_more means none joined better n k i j xs ys there on old new square kn in' jn so_far
-    (entry_at means none n xs i k from there was in' kn e₁ r₁)
-    (rw e₂ at r₂)
-    (rw e₃ at r₃)
-    made)
+  -- The rows before row a are relaxed, and the others are as they were.
+  pub record RowsTo (n k : ℕ) (old on now : List V) (a : ℕ) : Type 0 where
+    pub done : RowsRelaxed joined better n k (a * n) (cell means none old) (cell means none on) (cell means none now)
+    pub rest : (j : ℕ) → a * n ≤ j → cell means none now j ≡ cell means none old j
+
+  module _ (n k a : ℕ) (kn : k < n) (old on now : List V) (so_far : RowsTo n k old on now a) where
+    rows_step : (now' : List V) → ((j : ℕ) → ((j < a * n) ⊎ ((a + 1) * n ≤ j)) → cell means none now' j ≡ cell means none now j) →
+        ((b : ℕ) → b < n → cell means none now' (a * n + b) ≡ better (cell means none now (a * n + b)) (joined (cell means none now (a * n + k)) (cell means none on b))) →
+        RowsTo n k old on now' (a + 1)
+    rows_step now' others here = record {
+      done = record { done = go };
+      rest = λ j h. others j (inr h) ∙ so_far.rest j (omega arith);
+    }
+      where
+        go : (i b : ℕ) → (i + 1) * n ≤ (a + 1) * n → b < n →
+            cell means none now' (i * n + b) ≡ better (cell means none old (i * n + b)) (joined (cell means none old (i * n + k)) (cell means none on b))
+        go i b h q =
+            elim (cases_order i a) [
+              | inl e ↦
+                  let made = here b q in
+                  let was = so_far.rest (a * n + b) (omega arith) in
+                  let was_k = so_far.rest (a * n + k) (omega arith) in
+                  subst (λ m. cell means none now' (m * n + b) ≡ better (cell means none old (m * n + b)) (joined (cell means none old (m * n + k)) (cell means none on b))) (sym e) cc
+              | inr o ↦ elim o [
+                | inl l ↦
+                    let up : (i + 1) * n ≤ a * n = mul-le-mul (omega arith) (omega arith) in
+                    others (i * n + b) (inl (omega arith)) ∙ so_far.done.done i b up q
+                | inr l ↦ let up : (a + 2) * n ≤ (i + 1) * n = mul-le-mul (omega arith) (omega arith) in absurd (omega arith)
+              ]
+            ]
+
+    pub rows_written : (w count : ℕ) (row : List V) (there : V) → w ≡ n → length row ≡ w → w ≤ count → (a + 1) * n ≤ length now → there ≡ get_or (mid_of (a * n) w now) k there →
+        RowRelaxed joined better count (means there) (cell means none (mid_of (a * n) w now)) (cell means none on) (cell means none row) →
+        RowsTo n k old on (put_mid (a * n) w now row) (a + 1)
+    rows_written w count row there wide wide' all fits is-there made =
+        let p = a * n in
+        let long : length (take p now) ≡ p = length-take-le p now (omega arith) in
+        let rest = row ++ post_of p w now in
+        rows_step (put_mid p w now row)
+        (λ j o. elim o [
+          | inl l ↦ cell_left means none (take p now) rest j (omega arith) ∙ cell_front means none now p j l
+          | inr l ↦
+              cell_right means none (take p now) rest p j (w + (j - (p + w))) long (omega arith)
+              ∙ cell_right means none row (post_of p w now) w (w + (j - (p + w))) (j - (p + w)) wide' refl
+              ∙ cell_after means none now p w (j - (p + w))
+              ∙ ap (cell means none now) (omega arith)
+        ])
+        (λ b q.
+        let new = cell_right means none (take p now) rest p (p + b) b long refl ∙ cell_left means none row (post_of p w now) b (omega arith) in
+        let one = made.done b (omega arith) in
+        let old_b = cell_part means none now p w b (omega arith) in
+        let old_k = cell_part means none now p w k (omega arith) in
+        let is = cell_read means none (mid_of p w now) k there (omega (arith, length-take-le w (drop p now) (omega (arith, length-drop p now)))) is-there in
+        cc)
+
+  -- The rows before the vertex k and those behind it, with its own row between them, which stays.
+  module _ (n k : ℕ) (before before' onward behind behind' : List V) (kn : k < n)
+      (front : length before ≡ k * n)
+      (front' : length before' ≡ k * n)
+      (wide : length onward ≡ n)
+      (back : length behind + (k + 1) * n ≡ n * n)
+      (first : RowsRelaxed joined better n k (length before) (cell means none before) (cell means none onward) (cell means none before'))
+      (then : RowsRelaxed joined better n k (length behind) (cell means none behind) (cell means none onward) (cell means none behind'))
+    where
+      pub round_done : RoundDone joined better n k (entry means none n (before ++ (onward ++ behind))) (entry means none n (before' ++ (onward ++ behind')))
+      round_done = record { done = go } where
+        old : ℕ → ℕ → W
+        old = entry means none n (before ++ (onward ++ behind))
+
+        new : ℕ → ℕ → W
+        new = entry means none n (before' ++ (onward ++ behind'))
+
+        on_old : (b : ℕ) → b < n → old k b ≡ cell means none onward b
+        on_old b q =
+            cell_right means none before (onward ++ behind) (k * n) (k * n + b) b front (omega arith) ∙ cell_left means none onward behind b (omega arith)
+
+        on_new : (b : ℕ) → b < n → new k b ≡ cell means none onward b
+        on_new b q =
+            cell_right means none before' (onward ++ behind') (k * n) (k * n + b) b front' (omega arith) ∙ cell_left means none onward behind' b (omega arith)
+
+        in_front : (a b : ℕ) → a < k → b < n → new a b ≡ relaxed joined better old k a b
+        in_front a b l q =
+            let up : (a + 1) * n ≤ k * n = mul-le-mul (omega arith) (omega arith) in
+            let made = first.done a b (omega arith) q in
+            let is_new = cell_left means none before' (onward ++ behind') (a * n + b) (omega arith) in
+            let is_old = cell_left means none before (onward ++ behind) (a * n + b) (omega arith) in
+            let is_old_k = cell_left means none before (onward ++ behind) (a * n + k) (omega arith) in
+            let on = on_old b q in
+            cc
+
+        at_back : (a b d : ℕ) → a ≡ k + 1 + d → a < n → b < n → new a b ≡ relaxed joined better old k a b
+        at_back a b d e p q =
+            let up : (k + 1 + d + 1) * n ≤ n * n = mul-le-mul (omega arith) (omega arith) in
+            let at : a * n ≡ k * n + n + d * n = ap (λ m. m * n) e ∙ omega arith in
+            let behind_at : (xs ys : List V) (j : ℕ) → length xs ≡ k * n → cell means none (xs ++ (onward ++ ys)) (a * n + j) ≡ cell means none ys (d * n + j) =
+            λ xs ys j long.
+            cell_right means none xs (onward ++ ys) (k * n) (a * n + j) (n + (d * n + j)) long (omega arith)
+            ∙ cell_right means none onward ys n (n + (d * n + j)) (d * n + j) wide (omega arith) in
+            let made = then.done d b (omega arith) q in
+            let is_new = behind_at before' behind' b front' in
+            let is_old = behind_at before behind b front in
+            let is_old_k = behind_at before behind k front in
+            let on = on_old b q in
+            cc
+
+        go : (a b : ℕ) → a < n → b < n → new a b ≡ relaxed joined better old k a b
+        go a b p q =
+            elim (cases_order a k) [
+              | inl e ↦ subst (λ c. new c b ≡ relaxed joined better old k c b) (sym e) (on_new b q ∙ sym (on_old b q) ∙ sym (row_stays laws old k b))
+              | inr o ↦ elim o [
+                | inl l ↦ in_front a b l q
+                | inr l ↦ at_back a b (a - (k + 1)) (omega arith) p q
+              ]
+            ]

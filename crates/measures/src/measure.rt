@@ -7,14 +7,19 @@ ghost use Rattle.measures.specs.Laws.{Laws};
 /// Values are plain data, and several values may mean the same: the laws speak of what a value means.
 /// An implementation names the type of its meanings, what each value means, and the operations on meanings,
 /// and gives the laws for all meanings (`laws`). Its functions do on values what the operations do on meanings.
+/// Its constants are given twice, for the code and for the proofs, and mean `none` and `here`.
 pub trait Measure {
     type Value: Copy + Drop;
 
     /// A value for two vertices that no path joins.
     const NONE: Self::Value;
 
+    ghost NONE: { Self.Value };
+
     /// A value for the path of no steps, from a vertex to itself.
     const HERE: Self::Value;
+
+    ghost HERE: { Self.Value };
 
     ghost Meaning: { Type 0 };
 
@@ -30,13 +35,9 @@ pub trait Measure {
 
     ghost laws: { Laws none here joined better };
 
-    /// `NONE`, with its meaning: generic code knows a constant's meaning by this alone.
-    fn no_path() -> Self::Value
-        ensures { means result ≡ none };
+    ghost means_none: { means NONE ≡ none };
 
-    /// `HERE`, with its meaning.
-    fn empty_path() -> Self::Value
-        ensures { means result ≡ here };
+    ghost means_here: { means HERE ≡ here };
 
     /// The value of a path of value `a` and, from its end, a path of value `b`.
     fn join(a: Self::Value, b: Self::Value) -> Self::Value

@@ -1,5 +1,5 @@
 // The measure yes/no: whether some path leads from one vertex to another.
-ghost use Rattle.std.specs.Prelude.{◌≡◌, Bool, true, false, ◌&&◌, ◌||◌, Decides};
+ghost use Rattle.std.specs.Prelude.{◌≡◌, Bool, true, false, ◌&&◌, ◌||◌, Decides, refl};
 ghost use Rattle.measures.specs.Outcome.{Either};
 ghost use Rattle.measures.specs.Reach.{yes, yes_no_laws};
 ghost use Rattle.measures.specs.Walks.{Reachable};
@@ -15,7 +15,11 @@ impl Measure for YesNo {
 
     const NONE: u8 = 0;
 
+    ghost NONE = { 0 };
+
     const HERE: u8 = 255;
+
+    ghost HERE = { 255 };
 
     ghost Meaning = { Bool };
 
@@ -31,20 +35,16 @@ impl Measure for YesNo {
 
     ghost laws = { yes_no_laws };
 
-    fn no_path() -> u8 {
-        Self::NONE
-    }
+    ghost means_none = { refl };
 
-    fn empty_path() -> u8 {
-        Self::HERE
-    }
+    ghost means_here = { refl };
 
     fn join(a: u8, b: u8) -> u8 {
-        if a < b { a } else { b }
+        a.min(b)
     }
 
     fn choose(a: u8, b: u8) -> u8 {
-        if a < b { b } else { a }
+        a.max(b)
     }
 
     fn same(a: u8, b: u8) -> bool {
@@ -58,5 +58,6 @@ impl Measure for YesNo {
 pub fn settle_reach(cells: &mut [u8], side: usize) -> Result<(), Refusal>
     ensures { Either Reachable side cells.old cells.new result }
 {
+    // The outcome of settling at this measure, in the words of steps that lead somewhere.
     settle::<YesNo>(cells, side)
 }

@@ -1,19 +1,22 @@
 // Settling: a square table in lent memory becomes the table of the best over all paths.
-ghost use Rattle.std.specs.Prelude.{◌≡◌, ◌+◌, ◌*◌, ◌<◌, ◌≤◌};
+ghost use Rattle.std.specs.Prelude.{◌≡◌, ◌*◌, ◌<◌, length, MatchResult};
 ghost use Rattle.measures.specs.Paths.{entry};
-ghost use Rattle.measures.specs.Outcome.{Square, Outcome, number as «number_of_lem»};
-ghost use Rattle.measures.specs.Rounds.{RowRelaxed, RowsRelaxed};
+ghost use Rattle.measures.specs.Outcome.{Square, Refused, Outcome, number as «number_of_lem»};
+ghost use Rattle.measures.specs.Rounds.{cell, RowRelaxed, RowsRelaxed, RoundDone};
 
 use crate::measure::Measure;
 
 /// The largest side of a table.
 pub const LARGEST: usize = 64;
 
+/// How many values a table of the largest side has.
+pub const CELLS: usize = LARGEST * LARGEST;
+
 /// Why a table is not settled.
 #[derive(Clone, Copy, PartialEq, Eq, Debug)]
 pub enum Refusal {
     /// The side is above 64, or the length is not side × side.
-    NotSquare,
+    NotSquare = 15,
 }
 
 impl Refusal {
@@ -21,10 +24,18 @@ impl Refusal {
     pub fn number(self) -> u8
         ensures { result ≡ «number_of_lem» self }
     {
-        match self {
-            Refusal::NotSquare => 15,
-        }
+        self as u8
     }
+}
+
+/// Checks that `cells` is a square table: `side` is at most 64, and there are `side` × `side` values.
+pub fn check_square<T>(cells: &[T], side: usize) -> Result<(), Refusal>
+    ensures { MatchResult result (λ _. Square side cells.now) (Refused side cells.now cells.now) }
+{
+    if side > LARGEST || cells.len() != side * side {
+        return Err(Refusal::NotSquare);
+    }
+    Ok(())
 }
 
 /// Makes each entry of a table the best over all paths of one step or more, in place.
@@ -34,69 +45,53 @@ impl Refusal {
 pub fn settle<M: Measure>(cells: &mut [M::Value], side: usize) -> Result<(), Refusal>
     ensures { Outcome M.none M.joined M.better M.means side cells.old cells.new result }
 {
-    if side > LARGEST {
-        return Err(Refusal::NotSquare);
-    }
-    if cells.len() != side * side {
-        return Err(Refusal::NotSquare);
-    }
+    check_square(cells, side)?;
     for via in 0..side {
         round::<M>(cells, side, via);
     }
     Ok(())
 }
 
-// Lets every path go through the vertex `via` too. Row `via` itself gains nothing by that.
-// The rows before it and those behind it are two runs of memory beside the one that is read, which lets the
-// compiler make vector code of `relax`.
+// Lets every path go through the vertex `via` too. Row `via` itself gains nothing by that, so it is read while the
+// rows before it and those behind it are written.
 fn round<M: Measure>(cells: &mut [M::Value], side: usize, via: usize)
     requires square { Square side cells.old }
     requires vertex { via < side }
-    ensures { RowsRelaxed M.joined M.better side via 0 side (entry M.means M.none side cells.old) (entry M.means M.none side cells.new) }
+    ensures { RoundDone M.joined M.better side via (entry M.means M.none side cells.old) (entry M.means M.none side cells.new) }
 {
-    relax_rows::<M>(cells, side, via, 0, via);
-    relax_rows::<M>(cells, side, via, via + 1, side);
+    let (before, rest) = cells.split_at_mut(via * side);
+    let (onward, behind) = rest.split_at_mut(side);
+    relax_rows::<M>(before, via, onward, via);
+    relax_rows::<M>(behind, side - via - 1, onward, via);
 }
 
-// Lets the paths from the rows `from..to` go through the vertex `via` too.
-fn relax_rows<M: Measure>(cells: &mut [M::Value], side: usize, via: usize, from: usize, to: usize)
-    requires square { Square side cells.old }
-    requires vertex { via < side }
-    requires rows { (from ≤ to) × (to ≤ side) }
-    ensures { RowsRelaxed M.joined M.better side via from to (entry M.means M.none side cells.old) (entry M.means M.none side cells.new) }
+// Lets the paths from `count` rows go through the vertex `via` too, whose own row is `onward`.
+// Not `chunks_exact_mut`, since a proof knows no value of a slice that it has lent. With a count that is below the
+// side the compiler sees that no row reaches `onward`, and tests nothing for it.
+fn relax_rows<M: Measure>(rows: &mut [M::Value], count: usize, onward: &[M::Value], via: usize)
+    requires vertex { via < length onward.now }
+    requires count { length rows.old ≡ count * length onward.now }
+    ensures { RowsRelaxed M.joined M.better (length onward.now) via (length rows.old) (cell M.means M.none rows.old) (cell M.means M.none onward.now) (cell M.means M.none rows.new) }
 {
-    let none = M::no_path();
-    for row in from..to {
+    let side = onward.len();
+    for a in 0..count {
+        let row = &mut rows[a * side..(a + 1) * side];
+        let there = row[via];
         // Nothing is gained through a vertex that cannot be reached.
-        if !M::same(cells[place(side, row, via)], none) {
-            relax::<M>(cells, side, via, row);
+        if !M::same(there, M::NONE) {
+            relax::<M>(row, onward, there);
         }
     }
 }
 
-// Makes each value of a row the better of itself and the way by `via`.
-// Two runs of values and no test inside the loop: the compiler makes vector code of it.
-fn relax<M: Measure>(cells: &mut [M::Value], side: usize, via: usize, row: usize)
-    requires square { Square side cells.old }
-    requires vertex { via < side }
-    requires row { row < side }
-    ensures { RowRelaxed M.joined M.better side via row side (entry M.means M.none side cells.old) (entry M.means M.none side cells.new) }
+// Makes each value of a row the better of itself and the way by a vertex: `there` leads to it, and `onward` on from it.
+// Two runs of values and no test inside the loop: the compiler makes vector code of it. Not `zip`, since a proof
+// knows no value that `iter_mut` has lent to it.
+fn relax<M: Measure>(row: &mut [M::Value], onward: &[M::Value], there: M::Value)
+    requires { length row.old ≡ length onward.now }
+    ensures { RowRelaxed M.joined M.better (length row.old) (M.means there) (cell M.means M.none row.old) (cell M.means M.none onward.now) (cell M.means M.none row.new) }
 {
-    let there = cells[place(side, row, via)];
-    for j in 0..side {
-        let onward = cells[place(side, via, j)];
-        let at = place(side, row, j);
-        cells[at] = M::choose(cells[at], M::join(there, onward));
+    for (j, value) in row.iter_mut().enumerate() {
+        *value = M::choose(*value, M::join(there, onward[j]));
     }
-}
-
-// Where the entry of a row and a column stands in a table that is kept row by row.
-pub(crate) fn place(side: usize, row: usize, column: usize) -> usize
-    requires small { side ≤ 64 }
-    requires row { row < side }
-    requires column { column < side }
-    ensures is { result ≡ row * side + column }
-    ensures within { result < side * side }
-{
-    row * side + column
 }

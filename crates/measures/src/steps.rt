@@ -1,7 +1,7 @@
 // The measure step count: the fewest steps of a path from one vertex to another.
-ghost use Rattle.std.specs.Prelude.{◌≡◌, Decides};
+ghost use Rattle.std.specs.Prelude.{◌≡◌, Decides, refl};
 ghost use Rattle.measures.specs.Outcome.{Either};
-ghost use Rattle.measures.specs.Steps.{Steps, counted, no_steps, zero_steps, added, fewer, step_laws};
+ghost use Rattle.measures.specs.Steps.{Steps, counted, no_steps, zero_steps, added, fewer, step_laws, same_steps};
 ghost use Rattle.measures.specs.Walks.{Fewest};
 
 use crate::measure::Measure;
@@ -15,7 +15,11 @@ impl Measure for StepCount {
 
     const NONE: u8 = 255;
 
+    ghost NONE = { 255 };
+
     const HERE: u8 = 0;
+
+    ghost HERE = { 0 };
 
     ghost Meaning = { Steps };
 
@@ -31,13 +35,9 @@ impl Measure for StepCount {
 
     ghost laws = { step_laws };
 
-    fn no_path() -> u8 {
-        Self::NONE
-    }
+    ghost means_none = { same_steps _ _ refl };
 
-    fn empty_path() -> u8 {
-        Self::HERE
-    }
+    ghost means_here = { same_steps _ _ refl };
 
     // A sum above 64 means none as it stands, so nothing has to be tested here.
     fn join(a: u8, b: u8) -> u8 {
@@ -45,11 +45,11 @@ impl Measure for StepCount {
     }
 
     fn choose(a: u8, b: u8) -> u8 {
-        if b < a { b } else { a }
+        a.min(b)
     }
 
     fn same(a: u8, b: u8) -> bool {
-        if a > 64 { b > 64 } else { a == b }
+        a.min(65) == b.min(65)
     }
 }
 
@@ -60,5 +60,6 @@ impl Measure for StepCount {
 pub fn settle_steps(cells: &mut [u8], side: usize) -> Result<(), Refusal>
     ensures { Either Fewest side cells.old cells.new result }
 {
+    // The outcome of settling at this measure, in the words of walks.
     settle::<StepCount>(cells, side)
 }

@@ -3,7 +3,7 @@ ghost use Rattle.std.specs.Prelude.{◌≡◌, ◌+◌, ◌*◌, ◌<◌, length
 ghost use Rattle.measures.specs.Outcome.{Inside, Outcome};
 
 use crate::measure::Measure;
-use crate::settling::{LARGEST, Refusal, place, settle};
+use crate::settling::{Refusal, check_square, settle};
 
 /// A table of `side` rows of `side` values, over a slice that the caller lends.
 ///
@@ -36,11 +36,8 @@ impl<'a, M: Measure> Table<'a, M> {
     pub fn at(&self, row: usize, column: usize) -> Option<M::Value>
         ensures { MatchOption result (Inside self.now.side self.now.cells.now row column → ⊥) (λ v. Inside self.now.side self.now.cells.now row column × (v ≡ slice_index_or self.now.cells.now (row * self.now.side + column) v)) }
     {
-        let Some(at) = self.place_of(row, column) else {
-            return None;
-        };
-        let cells: &[M::Value] = self.cells;
-        Some(cells[at])
+        let at = self.place_of(row, column)?;
+        Some(self.cells[at])
     }
 
     /// Writes a value into a row and a column, and answers whether the table has them; if not, nothing is written.
@@ -49,6 +46,7 @@ impl<'a, M: Measure> Table<'a, M> {
         ensures side { self.new.side ≡ self.old.side }
         ensures cells { MatchBool result (Inside self.old.side self.old.cells.now row column × (self.new.cells.now ≡ slice_set self.old.cells.now (row * self.old.side + column) value)) ((Inside self.old.side self.old.cells.now row column → ⊥) × (self.new.cells.now ≡ self.old.cells.now)) }
     {
+        // A bool and no `Result`: that the table has no such place is all that there is to say.
         let Some(at) = self.place_of(row, column) else {
             return false;
         };
@@ -62,21 +60,18 @@ impl<'a, M: Measure> Table<'a, M> {
         ensures side { self.new.side ≡ self.old.side }
         ensures outcome { Outcome M.none M.joined M.better M.means self.old.side self.old.cells.now self.new.cells.now result }
     {
-        let side = self.side;
-        settle::<M>(self.cells, side)
+        settle::<M>(self.cells, self.side)
     }
 
     // Where the value of a row and a column stands, if the table is square and has them.
     fn place_of(&self, row: usize, column: usize) -> Option<usize>
         ensures { MatchOption result (Inside self.now.side self.now.cells.now row column → ⊥) (λ p. Inside self.now.side self.now.cells.now row column × ((p ≡ row * self.now.side + column) × (p < length self.now.cells.now))) }
     {
-        let side = self.side;
-        if side > LARGEST || row >= side || column >= side {
-            return None;
+        check_square(self.cells, self.side).ok()?;
+        if row < self.side && column < self.side {
+            Some(row * self.side + column)
+        } else {
+            None
         }
-        if self.cells.len() != side * side {
-            return None;
-        }
-        Some(place(side, row, column))
     }
 }

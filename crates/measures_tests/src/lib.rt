@@ -33,7 +33,7 @@ mod tests {
         let mut cells = [NO, 40, NO, NO, NO, 25, NO, NO, NO];
         assert_eq!(rt; settle::<StepCount>(&mut cells, 3), Ok(()));
         assert!(rt; cells[2] > 64);
-        assert!(rt; StepCount::same(cells[2], StepCount::no_path()));
+        assert!(rt; StepCount::same(cells[2], StepCount::NONE));
         cells[5] = 24;
         assert_eq!(rt; settle::<StepCount>(&mut cells, 3), Ok(()));
         assert_eq!(rt; cells[2], 64);

@@ -1,5 +1,6 @@
 -- The steps of the search for an order.
-use Rattle.std.proofs.Common.{◌≡◌, ℕ, ◌+◌, ◌<◌, ◌≤◌, Bool, true, false, List, [], ◌∷◌, ◌++◌, length, get_or, take, drop, set, sym, refl, ap, ◌∙◌, subst, inl, inr, arith}
+use Rattle.std.proofs.Common.{◌≡◌, ℕ, ◌+◌, ◌<◌, ◌≤◌, true, false, Option, Some, None, List, [], ◌∷◌, ◌++◌, length, get_or, take, drop, set, sym, refl, ap, ◌∙◌, subst, inl, inr, arith}
+use Rattle.std.specs.Option.{is_some}
 use Rattle.std.proofs.lemmas.List.{length_push, length-take-le, get_or_append_left, get_or_push, get_or-take, get_or-set_same, take-append-drop, take-append-le, take_at, take_more, take_more_set, take-set, take-take, take_all, drop-set-lt}
 use Rattle.std.proofs.lemmas.Bool.{cases_lt, cases_order, both_ways}
 use Rattle.cycles.specs.Cycles.{NotAfter}
@@ -73,14 +74,15 @@ module _ (b : Precedence) (F : List ℕ → Type 0) (m : ℕ) (old : List ℕ) w
     goes_on_here : (q : List ℕ) → Order b q → take m q ≡ take m old → get_or q m 0 ≡ item → take (m + 1) q ≡ take (m + 1) (set out m item)
     goes_on_here q o e is = let w = o.permutation.whole in goes_on q out m item (omega arith) room (e ∙ sym u.front) is
 
-    pub upto_tried : (out' : List ℕ) (r : Bool) → r ≡ false → Extended b F (m + 1) (set out m item) out' r → Upto out' (item + 1)
-    upto_tried out' r no_order t = record {
+    pub upto_tried : (r : Option (List ℕ)) → is_some r ≡ false → Extended b F (m + 1) (set out m item) r → Upto (set out m item) (item + 1)
+    upto_tried (Some out') none t = absurd (both_ways true none refl)
+    upto_tried None none missing = record {
       fail = λ q o e l. elim (cases_lt (get_or q m 0) item) [
         | inl a ↦ u.fail q o e a
-        | inr a ↦ t.missing no_order q o (goes_on_here q o e (omega arith))
+        | inr a ↦ missing q o (goes_on_here q o e (omega arith))
       ];
-      front = front_again out out' m item t.front ∙ u.front;
-      rest = t.rest ∙ drop-set-lt b.count out m item less ∙ u.rest;
+      front = take-set out m item ∙ u.front;
+      rest = drop-set-lt b.count out m item less ∙ u.rest;
     }
 
     pub upto_barred : (Free b (take m out) item → ⊥) → Upto out (item + 1)
@@ -97,68 +99,52 @@ module _ (b : Precedence) (F : List ℕ → Type 0) (m : ℕ) (old : List ℕ) w
       rest = u.rest;
     }
 
-    pub found_here : (out' : List ℕ) (r : Bool) → r ≡ true → Extended b F (m + 1) (set out m item) out' r → b.count ≤ length out' → Extended b F m old out' r
-    found_here out' r is t long =
+    pub found_here : (r : Option (List ℕ)) → is_some r ≡ true → Extended b F (m + 1) (set out m item) r → Extended b F m old r
+    found_here None some t = absurd (both_ways false refl some)
+    found_here (Some out') some t =
         let n = b.count in
         let front = front_again out out' m item t.front ∙ u.front in
         let here : get_or (take n out') m 0 ≡ item =
         get_or-take n out' m 0 less ∙ sym (get_or-take (m + 1) out' m 0 (omega arith)) ∙ ap (λ p. get_or p m 0) t.front ∙ get_or-take (m + 1) (set out m item) m 0 (omega arith) ∙ get_or-set_same out m item 0 room in
-        let best = t.found is in
         record {
-          found = λ _. record {
-            passing = best.passing;
-            first = λ q p e. elim (cases_order (get_or q m 0) item) [
-              | inl a ↦ best.first q p (goes_on_here q p.order e a)
-              | inr c ↦ elim c [
-                | inl a ↦ absurd (p.passes (u.fail q p.order e a))
-                | inr a ↦
-                    let w = p.order.permutation.whole in
-                    let v = length-take-le n out' long in
-                    lower_first m (take n out') q (take-take m n out' (omega arith) ∙ front ∙ sym e) (omega arith) (omega arith) (omega arith)
-              ]
-            ];
-          };
-          missing = λ e. absurd (both_ways r e is);
+          passing = t.passing;
+          first = λ q p e. elim (cases_order (get_or q m 0) item) [
+            | inl a ↦ t.first q p (goes_on_here q p.order e a)
+            | inr c ↦ elim c [
+              | inl a ↦ absurd (p.passes (u.fail q p.order e a))
+              | inr a ↦
+                  let w = p.order.permutation.whole in
+                  let v = t.passing.order.permutation.whole in
+                  lower_first m (take n out') q (take-take m n out' (omega arith) ∙ front ∙ sym e) (omega arith) (omega arith) (omega arith)
+            ]
+          ];
           front = front;
           rest = t.rest ∙ drop-set-lt n out m item less ∙ u.rest;
         }
 
-  pub all_tried : (out : List ℕ) (item : ℕ) (r : Bool) → r ≡ false → m < b.count → b.count ≤ item → Upto out item → Extended b F m old out r
-  all_tried out item r is less all u = record {
-    found = λ e. absurd (both_ways r is e);
-    missing = λ _ q o e. let w = o.permutation.whole in u.fail q o e (omega (arith, o.permutation.below m (omega arith)));
-    front = u.front;
-    rest = u.rest;
-  }
+  pub all_tried : (out : List ℕ) (item : ℕ) → m < b.count → b.count ≤ item → Upto out item → Extended b F m old None
+  all_tried out item less all u = λ q o e. let w = o.permutation.whole in u.fail q o e (omega (arith, o.permutation.below m (omega arith)))
 
   -- No order that begins with the placed items is wanted.
-  pub cut : ((q : List ℕ) → Permutation b.count q → Begins (take m old) q → F q) → Extended b F m old old false
-  cut fails = record {
-    found = λ e. absurd (both_ways false refl e);
-    missing = λ _ q o e. fails q o.permutation (begins (take m old) q m e);
-    front = refl;
-    rest = refl;
-  }
+  pub cut : ((q : List ℕ) → Permutation b.count q → Begins (take m old) q → F q) → Extended b F m old None
+  cut fails = λ q o e. fails q o.permutation (begins (take m old) q m e)
 
   -- All items are placed.
-  pub whole : m ≡ b.count → b.count ≤ length old → Lined b (take m old) → (Permutation b.count (take m old) → F (take m old) → ⊥) → Extended b F m old old true
+  pub whole : m ≡ b.count → b.count ≤ length old → Lined b (take m old) → (Permutation b.count (take m old) → F (take m old) → ⊥) → Extended b F m old (Some old)
   whole e room l passes =
       let n = b.count in
       let same : take m old ≡ take n old = ap (λ k. take k old) e in
       let l' = subst (Lined b) same l in
       let p = lined_permutation b (take n old) (length-take-le n old room) l' in
       record {
-        found = λ _. record {
-          passing = record {
-            order = record { permutation = p; respects = l'.respects };
-            passes = subst (λ q. Permutation n q → F q → ⊥) same passes p;
-          };
-          first = λ q g f.
-              let w = g.order.permutation.whole in
-              let is : take n old ≡ q = sym same ∙ sym f ∙ take_all m q (omega arith) in
-              subst (λ z. NotAfter (take n old) z) is (not_after_itself (take n old));
+        passing = record {
+          order = record { permutation = p; respects = l'.respects };
+          passes = subst (λ q. Permutation n q → F q → ⊥) same passes p;
         };
-        missing = λ x. absurd (both_ways true x refl);
+        first = λ q g f.
+            let w = g.order.permutation.whole in
+            let is : take n old ≡ q = sym same ∙ sym f ∙ take_all m q (omega arith) in
+            subst (λ z. NotAfter (take n old) z) is (not_after_itself (take n old));
         front = refl;
         rest = refl;
       }

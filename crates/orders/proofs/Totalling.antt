@@ -2,7 +2,7 @@
 use Rattle.std.proofs.Common.{◌≡◌, ℕ, zero, suc, ◌+◌, ◌-◌, ◌*◌, ◌<◌, ◌≤◌, List, [], ◌∷◌, ◌++◌, length, get_or, take, set, sym, refl, ap, ◌∙◌, subst, inl, inr, suc-mul, mul-le-mul, arith, length-append}
 use Rattle.std.specs.List.{AllByRecursion}
 use Rattle.std.proofs.ByRecursion.{All-append, All-weaker, All-from_get_or}
-use Rattle.std.proofs.lemmas.List.{get_or-take, get_or-set_same, length-take-le, take_all}
+use Rattle.std.proofs.lemmas.List.{get_or-take, get_or-set_same, length-take-le, take-set, take_all}
 use Rattle.std.proofs.lemmas.Bool.{cases_lt}
 use Rattle.cycles.specs.Cycles.{Distinct}
 use Rattle.cycles.proofs.Walking.{few}
@@ -90,8 +90,8 @@ module _ (b : Precedence) (m : ℕ) (old : List ℕ) (less : m < b.count) (l : L
             let most = at_most (item ∷ so_far.tried) (total + r) fits bound_more in
             omega (arith, most, at_most_8 (b.count - m) (omega (arith, b.small)))
 
-      pub total_tried : (out' : List ℕ) (r : ℕ) → m < length out → CountedBehind b (m + 1) (set out m item) out' r → TotalTo b m old out' (item + 1) (total + r)
-      total_tried out' r room t =
+      pub total_tried : (r : ℕ) → m < length out → CountedBehind b (m + 1) (set out m item) r → TotalTo b m old (set out m item) (item + 1) (total + r)
+      total_tried r room t =
           let here : (q : List ℕ) → take (m + 1) q ≡ take (m + 1) (set out m item) → get_or q m 0 ≡ item = λ q e.
           sym (get_or-take (m + 1) q m 0 (omega arith)) ∙ ap (λ p. get_or p m 0) e ∙ get_or-take (m + 1) (set out m item) m 0 (omega arith) ∙ get_or-set_same out m item 0 room in
           record {
@@ -108,7 +108,7 @@ module _ (b : Precedence) (m : ℕ) (old : List ℕ) (less : m < b.count) (l : L
                       inr (h.0.0, goes_on q out m item (omega arith) room (h.0.1 ∙ sym so_far.front) is)
                 ])
                 (counted_both total r so_far.counted t.counted (λ q p s. omega (arith, p.1, here q s.1)));
-            front = front_again out out' m item t.front ∙ so_far.front;
+            front = take-set out m item ∙ so_far.front;
             tried = item ∷ so_far.tried;
             apart = apart_more;
             small = small_more;
@@ -138,7 +138,7 @@ module _ (b : Precedence) (m : ℕ) (old : List ℕ) (less : m < b.count) (l : L
       bound = so_far.bound;
     }
 
-  pub total_all : (out : List ℕ) (item total : ℕ) → item ≡ b.count → TotalTo b m old out item total → CountedBehind b m old out total
+  pub total_all : (out : List ℕ) (item total : ℕ) → item ≡ b.count → TotalTo b m old out item total → CountedBehind b m old total
   total_all out item total all t =
       let small = All-weaker (λ x. x < item) (λ x. x < b.count) (λ x h. omega arith) t.tried t.small in
       record {
@@ -146,11 +146,10 @@ module _ (b : Precedence) (m : ℕ) (old : List ℕ) (less : m < b.count) (l : L
             (λ q h. let w = h.0.permutation.whole in (h, omega (arith, h.0.permutation.below m (omega arith))))
             t.counted;
         few = at_most t.tried total (room_for t.tried t.apart small) t.bound;
-        front = t.front;
       }
 
 -- All items are placed.
-pub counted_whole : (b : Precedence) (m : ℕ) (old : List ℕ) → m ≡ b.count → b.count ≤ length old → Lined b (take m old) → CountedBehind b m old old 1
+pub counted_whole : (b : Precedence) (m : ℕ) (old : List ℕ) → m ≡ b.count → b.count ≤ length old → Lined b (take m old) → CountedBehind b m old 1
 counted_whole b m old e long l =
     let size : length (take m old) ≡ b.count = length-take-le m old (omega arith) ∙ e in
     record {
@@ -158,5 +157,4 @@ counted_whole b m old e long l =
           (record { permutation = lined_permutation b (take m old) size l; respects = l.respects }, take_all m (take m old) (omega arith))
           (λ q h. let w = h.0.permutation.whole in sym h.1 ∙ take_all m q (omega arith));
       few = let none : b.count - m ≡ 0 = omega arith in subst (λ k. 1 ≤ factorial k) (sym none) (omega arith);
-      front = refl;
     }

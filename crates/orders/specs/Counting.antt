@@ -4,7 +4,7 @@
 --   Enumerates P os             os has the lists with P, each once, and no others
 --   Counted P r                 r lists have P: some list that enumerates them has r entries
 --   factorial n                 n!
---   CountedBehind b m old out r r orders begin with the first m items of old, which stand in out still
+--   CountedBehind b m old r     r orders begin with the first m items of old
 use Rattle.std.specs.Prelude.{◌≡◌, ℕ, zero, suc, ◌-◌, ◌*◌, ◌<◌, ◌≤◌, List, [], length, get_or, take, ◌≢◌, slice_index_or}
 use Rattle.orders.specs.Orders.{Order}
 use Rattle.orders.specs.declared.precedence.Precedence.{Precedence}
@@ -28,7 +28,6 @@ abbrev pub factorial : ℕ → ℕ
 factorial zero = 1
 factorial (suc n) = suc n * factorial n
 
-pub record CountedBehind (b : Precedence) (m : ℕ) (old out : List ℕ) (r : ℕ) : Type 0 where
+pub record CountedBehind (b : Precedence) (m : ℕ) (old : List ℕ) (r : ℕ) : Type 0 where
   pub counted : Counted (λ q. Order b q × (take m q ≡ take m old)) r
   pub few : r ≤ factorial (b.count - m)
-  pub front : take m out ≡ take m old

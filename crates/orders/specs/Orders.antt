@@ -11,7 +11,7 @@
 --   Passing b F q      an order that does not fail. F says which fail
 --   First b F q        the first of the passing orders: at the first place where two differ, the lower item comes first
 --   Found b F r        what `find_order` answers: the first passing order and then 0, or none, since every order fails
-use Rattle.std.specs.Prelude.{◌≡◌, ℕ, ◌+◌, ◌-◌, ◌*◌, ◌<◌, true, false, ◌≢◌, List, ◌++◌, length, take, drop, replicate, Option, MatchOption, slice_index, slice_index_or}
+use Rattle.std.specs.Prelude.{◌≡◌, ℕ, ◌-◌, ◌<◌, true, false, ◌≢◌, List, [], ◌++◌, length, take, drop, replicate, Option, MatchOption, slice_index, slice_index_or}
 use Rattle.cycles.specs.Cycles.{NotAfter}
 use Rattle.orders.specs.declared.precedence.Precedence.{Precedence}
 
@@ -27,7 +27,7 @@ pub record Precedes (b : Precedence) (x y : ℕ) : Type 0 where
   pub first : x < b.count
   pub second : y < b.count
   pub distinct : x ≢ y
-  pub related : slice_index_or b.cells (x * 8 + y) false ≡ true
+  pub related : slice_index_or (slice_index_or b.cells x []) y false ≡ true
 
 pub record Pair (n u v x y : ℕ) : Type 0 where
   pub first : x ≡ u

@@ -3,7 +3,7 @@ ghost use Rattle.std.specs.Prelude.{◌≤◌, take};
 ghost use Rattle.orders.specs.Extending.{Lined, Extended};
 ghost use Rattle.orders.specs.Orders.{Found};
 
-use crate::precedence::Precedence;
+use crate::precedence::{PLACES, Precedence};
 use crate::sieve::Sieve;
 
 /// Finds the first order of the items that respects the precedence and passes the sieve. Of two orders the one with the
@@ -11,38 +11,40 @@ use crate::sieve::Sieve;
 ///
 /// The order stands at the front of the eight numbers, and 0 behind it. Where there is none, every order that respects the
 /// precedence fails.
-pub fn find_order<S: Sieve>(precedence: &Precedence, sieve: &S) -> Option<[u8; 8]>
+pub fn find_order<S: Sieve>(precedence: &Precedence, sieve: &S) -> Option<[u8; PLACES]>
     ensures { Found precedence.now (S.fails sieve.now) result }
 {
-    let mut order = [0; 8];
-    if extend(precedence, sieve, &mut order, 0) {
-        Some(order)
-    } else {
-        None
-    }
+    extend(precedence, sieve, [0; PLACES], 0)
 }
 
 // Tries the items that may come next, lowest first, behind the first `done` items of `order`. Where no order that begins with
 // those is wanted, it does not go on.
-fn extend<S: Sieve>(precedence: &Precedence, sieve: &S, order: &mut [u8; 8], done: u8) -> bool
+fn extend<S: Sieve>(
+    precedence: &Precedence,
+    sieve: &S,
+    mut order: [u8; PLACES],
+    done: usize,
+) -> Option<[u8; PLACES]>
     requires within { done ≤ precedence.now.count }
-    requires lined { Lined precedence.now (take done order.old) }
-    ensures { Extended precedence.now (S.fails sieve.now) done order.old order.new result }
+    requires lined { Lined precedence.now (take done order) }
+    ensures { Extended precedence.now (S.fails sieve.now) done order result }
 {
     let count = precedence.count();
-    if sieve.rejects(&order[0..done as usize], count) {
-        return false;
+    if sieve.rejects(&order[..done], count) {
+        return None;
     }
-    if done == count {
-        return true;
+    if done == usize::from(count) {
+        return Some(order);
     }
+    // A `for` over items, which are no places of a slice: a closure of `find_map` would have to write the order and to recurse.
     for item in 0..count {
-        if precedence.is_free(&order[0..done as usize], item) {
-            order[done as usize] = item;
-            if extend(precedence, sieve, order, done + 1) {
-                return true;
+        if precedence.is_free(&order[..done], item) {
+            order[done] = item;
+            let found = extend(precedence, sieve, order, done + 1);
+            if found.is_some() {
+                return found;
             }
         }
     }
-    false
+    None
 }

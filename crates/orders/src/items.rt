@@ -6,10 +6,5 @@ ghost use Rattle.orders.specs.Orders.{Among};
 pub fn is_among(items: &[u8], item: u8) -> bool
     ensures { Decides result (Among items.now item) }
 {
-    for other in items {
-        if *other == item {
-            return true;
-        }
-    }
-    false
+    items.contains(&item)
 }

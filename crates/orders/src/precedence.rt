@@ -6,12 +6,15 @@ mod calls;
 /// The most items that an order can have.
 pub const MOST_ITEMS: u8 = 8;
 
+// As many, as a length.
+pub(crate) const PLACES: usize = 8;
+
 /// Which of at most eight items, numbered from 0, have to come before which others.
 #[derive(Clone, Copy)]
 pub struct Precedence {
     /// How many items there are.
     count: u8,
-    /// Row by row, eight to a row: has the item of the row to come before that of the column?
-    cells: [bool; 64],
+    /// Has the item of the row to come before that of the column?
+    cells: [[bool; PLACES]; PLACES],
     ghost small: { count ≤ 8 },
 }

@@ -21,9 +21,7 @@ pub struct Anything;
 impl Sieve for Anything {
     ghost fails = { λ _ _. ⊥ };
 
-    fn rejects(&self, placed: &[u8], count: u8) -> bool {
-        let _ = placed;
-        let _ = count;
+    fn rejects(&self, _placed: &[u8], _count: u8) -> bool {
         false
     }
 }

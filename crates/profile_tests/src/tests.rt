@@ -20,35 +20,50 @@ fn fence(mode: FenceMode) -> Event {
     Event::fresh(0, Code::Fence(mode), 0, 0)
 }
 
-// A pair, the rules that hold for it in the order ra, svo, spush, volint, and whether it is pushed.
+// A pair, the rules that hold for it, and whether it is pushed.
 #[derive(Clone, Copy)]
-struct Row(u8, u8, [bool; 4], bool);
+struct Row(u8, u8, Rules, bool);
 
-const NONE: [bool; 4] = [false, false, false, false];
+const NONE: Rules = Rules {
+    ra: false,
+    svo: false,
+    spush: false,
+    volint: false,
+};
 
-const RA: [bool; 4] = [true, false, false, false];
+const RA: Rules = Rules {
+    ra: true,
+    svo: false,
+    spush: false,
+    volint: false,
+};
 
-const SVO: [bool; 4] = [false, true, false, false];
+const SVO: Rules = Rules {
+    ra: false,
+    svo: true,
+    spush: false,
+    volint: false,
+};
 
-const SPUSH: [bool; 4] = [false, false, true, false];
+const SPUSH: Rules = Rules {
+    ra: false,
+    svo: false,
+    spush: true,
+    volint: false,
+};
 
-const RA_VOLINT: [bool; 4] = [true, false, false, true];
+const RA_VOLINT: Rules = Rules {
+    ra: true,
+    svo: false,
+    spush: false,
+    volint: true,
+};
 
 fn check_rows(rt: &impl Abort, events: &[Event], rows: &[Row]) {
-    for row in rows {
-        let [ra, svo, spush, volint] = row.2;
-        let rules = Rules {
-            ra,
-            svo,
-            spush,
-            volint,
-        };
-        assert_eq!(rt; Rules::of(events, row.0, row.1), rules);
-        assert_eq!(rt;
-            Jam21.keeps(events, row.0, row.1),
-            ra | svo | spush | volint
-        );
-        assert_eq!(rt; Jam21.pushes(events, row.0, row.1), row.3);
+    for Row(a, b, rules, pushed) in rows.iter().copied() {
+        assert_eq!(rt; Rules::of(events, a, b), rules);
+        assert_eq!(rt; Jam21.keeps(events, a, b), rules != NONE);
+        assert_eq!(rt; Jam21.pushes(events, a, b), pushed);
     }
 }
 

@@ -1,24 +1,24 @@
 -- A scan, one event after the other.
-use Rattle.std.proofs.Common.{◌≡◌, ℕ, ◌+◌, ◌-◌, ◌<◌, true, false, cond, ◌||◌, eqb, List, [], ◌∷◌, ◌++◌, map, length, get_or, take, sym, refl, ap, ◌∙◌, subst, ap₂, ⊎_elim, append_assoc}
-use Rattle.std.specs.List.{between as part}
+use Rattle.std.proofs.Common.{Some, ◌≡◌, ℕ, ◌-◌, true, false, cond, List, [], ◌∷◌, ◌++◌, map, sym, refl, ap, ◌∙◌, subst, ap₂, ⊎_elim, append_assoc}
+use Rattle.std.specs.List.{between as part, fold}
 use Rattle.std.proofs.lemmas.Bool.{cases_Bool}
-use Rattle.std.proofs.lemmas.List.Elements.{filter_more}
-use Rattle.std.proofs.lemmas.List.{map-append, append-nil}
+use Rattle.std.proofs.lemmas.List.{append-nil}
+use Rattle.std.proofs.lemmas.Option.{cond_some}
 use Rattle.std.proofs.lemmas.Slice.{between_is}
 use Rattle.graph.specs.declared.code.Code.{Code}
 use Rattle.graph.specs.declared.event.Event.{Event}
 use Rattle.graph.specs.Codes.{is_access}
-use Rattle.graph.specs.Events.{event, absent}
+use Rattle.graph.specs.Events.{event}
+use Rattle.graph.specs.Lookup.{lookup}
 use Rattle.graph.specs.Order.{Po}
 use Rattle.profiles.specs.declared.scan.Scan.{Scan}
 use Rattle.profiles.specs.declared.scan.Stage.{Stage}
 use Rattle.profiles.specs.declared.scan.Stage.TheVariants.{Waiting, Released, Accessed, Complete}
 use Rattle.profiles.specs.Modes.{marks, is_release_fence, is_acquire_fence, is_sc_fence}
 use Rattle.profiles.specs.Patterns.{followed, any}
-use Rattle.profiles.specs.Scans.{awaits, further, completes, Met}
+use Rattle.profiles.specs.Scans.{awaits, further, completes, stepped, Met, Sums}
 use Rattle.profiles.specs.Segments.{segment, inner_codes}
-use Rattle.profiles.specs.Threads.{in_thread, codes_of}
-use Rattle.profiles.specs.Ordered.{event_added}
+use Rattle.profiles.specs.Threads.{codes_of}
 use Rattle.profiles.specs.Between.{inner_codes_are}
 use Rattle.profiles.proofs.Patterns.{met_first, followed_stays, any_push}
 
@@ -33,28 +33,26 @@ stage_more Released c more =
 stage_more Accessed c more = ⊎_elim (λ e. rw e) (λ e. rw e) (cases_Bool (is_acquire_fence c))
 stage_more Complete c more = refl
 
-pub met_more : (s t : Scan) (cs : List Code) (c : Code) → Met s cs → t.marked ≡ (s.marked || marks c) → t.fenced ≡ (s.fenced || is_sc_fence c) →
-    t.stage ≡ cond (awaits s.stage c) (further s.stage) s.stage → Met t (cs ++ c ∷ [])
-met_more s t cs c m x y z = record {
-  marked = cc (x, m.marked, any_push marks cs c);
-  fenced = cc (y, m.fenced, any_push is_sc_fence cs c);
-  stage = λ more. ap (λ u. completes u more) z ∙ stage_more s.stage c more ∙ m.stage (c ∷ more) ∙ ap (completes Waiting) (sym (append_assoc cs (c ∷ []) more));
+met_more : (s : Scan) (cs : List Code) (c : Code) → Met s cs → Met (stepped s c) (cs ++ c ∷ [])
+met_more s cs c m = record {
+  marked = cc (m.marked, any_push marks cs c);
+  fenced = cc (m.fenced, any_push is_sc_fence cs c);
+  stage = λ more. stage_more s.stage c more ∙ m.stage (c ∷ more) ∙ ap (completes Waiting) (sym (append_assoc cs (c ∷ []) more));
 }
 
-module _ (t : ℕ) (xs : List Event) (i : ℕ) (within : i < length xs) where
-  codes_more : codes_of t (take (i + 1) xs) ≡ codes_of t (take i xs) ++ map (λ e. e.code) (cond (eqb (get_or xs i absent).thread t) (get_or xs i absent ∷ []) [])
-  codes_more = ap (map (λ e. e.code)) (filter_more (λ e. eqb e.thread t) xs i absent within) ∙ map-append (λ e. e.code) (in_thread t (take i xs)) _
+pub met_none : (s : Scan) → s.marked ≡ false → s.fenced ≡ false → s.stage ≡ Waiting → Met s []
+met_none s x y z = record { marked = x; fenced = y; stage = λ more. ap (λ u. completes u more) z }
 
-  pub codes_yes : eqb (get_or xs i absent).thread t ≡ true → codes_of t (take i xs) ++ (get_or xs i absent).code ∷ [] ≡ codes_of t (take (i + 1) xs)
-  codes_yes e = sym (rw e at codes_more)
+pub met_all : (s : Scan) (cs : List Code) (es : List Event) → Met s cs → Met (fold (λ t e. stepped t e.code) s es) (cs ++ map (λ e. e.code) es)
+met_all s cs [] m = rw append-nil m
+met_all s cs (e ∷ es) m = rw (← append_assoc cs (e.code ∷ []) (map (λ x. x.code) es)) (met_all (stepped s e.code) (cs ++ e.code ∷ []) es (met_more s cs e.code m))
 
-  pub codes_no : eqb (get_or xs i absent).thread t ≡ false → codes_of t (take i xs) ≡ codes_of t (take (i + 1) xs)
-  codes_no e = sym (rw e at codes_more ∙ append-nil _)
-
--- what is scanned for a pair is what stands strictly between
-pub scanned : (es : List Event) (a b : ℕ) (s : Scan) (xs : List Event) → Po es a b → xs ≡ part (a - 7) (b - 8) es →
-    Met s (codes_of (get_or es (b - 8) absent).thread xs) → Met s (inner_codes (segment es a b))
-scanned es a b s xs p e met =
-    let here : get_or es (b - 8) absent ≡ event es b = sym (event_added es b p.added.0) in
-    let codes : codes_of (get_or es (b - 8) absent).thread xs ≡ inner_codes (segment es a b) = ap₂ (λ x ys. codes_of x.thread ys) here (e ∙ between_is es (a - 7) (b - 8)) ∙ sym (inner_codes_are es a b) in
-    subst (Met s) codes met
+-- the summary of a pair, from what was read for it
+pub summed : (es : List Event) (a b : ℕ) → Po es a b → (first last : Event) → Some first ≡ lookup es a → Some last ≡ lookup es b
+    → (xs : List Event) → xs ≡ part (a - 7) (b - 8) es → (s : Scan) → Met s (codes_of last.thread xs)
+    → Sums (record { first = first.code; last = last.code; met = s }) (segment es a b)
+summed es a b p first last at-a at-b xs e s met =
+    let is-first = sym (cond_some _ (event es a) first (sym at-a)).1 in
+    let is-last = sym (cond_some _ (event es b) last (sym at-b)).1 in
+    let codes : codes_of last.thread xs ≡ inner_codes (segment es a b) = ap₂ (λ x ys. codes_of x.thread ys) is-last (e ∙ between_is es (a - 7) (b - 8)) ∙ sym (inner_codes_are es a b) in
+    record { first = ap (λ x. x.code) is-first; last = ap (λ x. x.code) is-last; met = subst (Met s) codes met }

@@ -8,6 +8,7 @@ pub mod Modes
 pub mod Patterns
 pub mod Scans
 pub mod Rules
+pub mod Summed
 pub mod Jam21
 pub mod Jam21Rules
 pub mod Ordered

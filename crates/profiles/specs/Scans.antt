@@ -4,12 +4,13 @@
 --   further s        the stage after s
 --   completes s cs   from the stage s, the codes cs bring what is left of a release fence, an
 --                    access and an acquire fence, in this order
+--   stepped s c      the scan s after one more event, of code c
 --   Met s cs         the scan s holds what stands in the codes cs: whether one marks, whether one is
 --                    an sc fence, and the stage from which any further codes complete exactly what
 --                    they complete after cs
 --   Sums r s         the summary r holds the codes at both ends of the segment s, and what stands
 --                    strictly between
-use Rattle.std.specs.Prelude.{◌≡◌, Bool, true, false, List, ◌++◌}
+use Rattle.std.specs.Prelude.{◌≡◌, Bool, true, false, ◌||◌, if◌then◌else◌, List, ◌++◌}
 use Rattle.graph.specs.declared.code.Code.{Code}
 use Rattle.graph.specs.Codes.{is_access}
 use Rattle.profiles.specs.declared.scan.Stage.{Stage}
@@ -37,6 +38,13 @@ completes Waiting cs = followed is_release_fence (followed is_access (any is_acq
 completes Released cs = followed is_access (any is_acquire_fence) cs
 completes Accessed cs = any is_acquire_fence cs
 completes Complete cs = true
+
+abbrev pub stepped : Scan → Code → Scan
+stepped s c = record {
+  marked = s.marked || marks c;
+  fenced = s.fenced || is_sc_fence c;
+  stage = if awaits s.stage c then further s.stage else s.stage;
+}
 
 pub record Met (s : Scan) (cs : List Code) : Type 0 where
   pub marked : s.marked ≡ any marks cs

@@ -1,10 +1,9 @@
 // The JAM21 profile: the Java memory model of 2021.
-ghost use Rattle.std.specs.Prelude.{◌≡◌, ◌&&◌, ◌||◌, [], Decides, nat_le};
+ghost use Rattle.std.specs.Prelude.{◌≡◌, ◌&&◌, ◌||◌, Decides, nat_le};
 ghost use Rattle.profiles.specs.Jam21.{jam21};
 ghost use Rattle.profiles.specs.Meaning.{Told};
-ghost use Rattle.profiles.specs.Modes.{marks, is_sc_access};
 ghost use Rattle.profiles.specs.Rules.{Ra, Svo, Spush, Volint, Kept, Pushed};
-ghost use Rattle.profiles.specs.Scans.{completes};
+ghost use Rattle.profiles.specs.Summed.{rules_of};
 ghost use Rattle.profiles.specs.Jam21Rules.{jam21_lawful};
 
 use crate::mode::{is_marking, is_sc_access};
@@ -12,8 +11,8 @@ use crate::profile::Profile;
 use crate::scan::Summary;
 use graph::event::{Event, INITIAL};
 
-/// Which of the four rules hold for a pair of events.
-#[derive(Clone, Copy, PartialEq, Eq, Debug)]
+/// Which of the four rules hold for a pair of events; by default none does.
+#[derive(Clone, Copy, PartialEq, Eq, Default, Debug)]
 pub struct Rules {
     /// An added access of mode sc, rel or acq stands at `a`, at `b` or between them.
     pub ra: bool,
@@ -36,29 +35,34 @@ impl Rules {
         ensures kept { Told (((result.ra || result.svo) || result.spush) || result.volint) (jam21.kept events.now a b) (Kept events.now a b) }
         ensures pushed { Told (nat_le 8 a && (result.spush || result.volint)) (jam21.pushed events.now a b) (Pushed events.now a b) }
     {
-        match Summary::of(events, a, b) {
-            Some(pair) => Rules::from_summary(pair),
-            None => Rules {
-                ra: false,
-                svo: false,
-                spush: false,
-                volint: false,
-            },
-        }
+        Summary::of(events, a, b).map_or(Rules::default(), Rules::from)
     }
 
-    /// The rules that hold for a pair in program order, by its summary.
-    pub fn from_summary(pair: Summary) -> Rules
-        ensures ra { result.ra ≡ ((marks pair.first || marks pair.last) || pair.met.marked) }
-        ensures svo { result.svo ≡ completes pair.met.stage [] }
-        ensures spush { result.spush ≡ pair.met.fenced }
-        ensures volint { result.volint ≡ (is_sc_access pair.first && is_sc_access pair.last) }
+    /// Does a rule keep the pair?
+    pub fn keeps(self) -> bool
+        ensures { result ≡ (((self.ra || self.svo) || self.spush) || self.volint) }
     {
+        self.ra || self.svo || self.spush || self.volint
+    }
+
+    /// Does a rule push the pair, whose first event is `first`?
+    pub fn pushes(self, first: u8) -> bool
+        ensures { result ≡ (nat_le 8 first && (self.spush || self.volint)) }
+    {
+        first >= INITIAL && (self.spush || self.volint)
+    }
+}
+
+/// The rules that hold for a pair in program order, by its summary.
+impl From<Summary> for Rules {
+    ghost from_gives = { λ pair rules. rules ≡ rules_of pair };
+
+    fn from(pair: Summary) -> Rules {
         Rules {
-            ra: is_marking(pair.first) | is_marking(pair.last) | pair.met.marked,
+            ra: is_marking(pair.first) || is_marking(pair.last) || pair.met.marked,
             svo: pair.met.stage.is_complete(),
             spush: pair.met.fenced,
-            volint: is_sc_access(pair.first) & is_sc_access(pair.last),
+            volint: is_sc_access(pair.first) && is_sc_access(pair.last),
         }
     }
 }
@@ -77,15 +81,13 @@ impl Profile for Jam21 {
         ensures value { result ≡ jam21.kept events.now a b }
         ensures rules { Decides result (Kept events.now a b) }
     {
-        let rules = Rules::of(events, a, b);
-        rules.ra | rules.svo | rules.spush | rules.volint
+        Rules::of(events, a, b).keeps()
     }
 
     fn pushes(&self, events: &[Event], a: u8, b: u8) -> bool
         ensures value { result ≡ jam21.pushed events.now a b }
         ensures rules { Decides result (Pushed events.now a b) }
     {
-        let rules = Rules::of(events, a, b);
-        a >= INITIAL && (rules.spush | rules.volint)
+        Rules::of(events, a, b).pushes(a)
     }
 }

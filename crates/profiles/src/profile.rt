@@ -12,6 +12,7 @@ use graph::event::Event;
 ///
 /// What a profile means is one value, the two sets of pairs for each list of events; `lawful`
 /// has the facts that every implementation shows of it.
+// The list and both numbers stay apart, as every relation of the field takes them.
 pub trait Profile {
     ghost meaning: { Self → Meaning };
 
@@ -27,10 +28,9 @@ pub trait Profile {
 }
 
 /// The theorem that the answers of every profile last: no other source, no later event and no other
-/// thread changes one. It is for callers' proofs; the number that comes back says nothing.
-pub fn answers_last<P: Profile>(profile: &P) -> u8
+/// thread changes one. It is for callers' proofs and does nothing.
+pub fn answers_last<P: Profile>(profile: &P)
     ensures { Lasting (P.meaning profile.now) }
 {
     let _ = profile;
-    0
 }

@@ -1,21 +1,21 @@
 // The scan of what stands between two events: a small machine, fed one code after the other.
-ghost use Rattle.std.specs.Prelude.{◌≡◌, ◌-◌, ◌||◌, [], if◌then◌else◌, MatchOption};
+ghost use Rattle.std.specs.Prelude.{◌≡◌, ◌-◌, [], if◌then◌else◌, MatchOption};
 ghost use Rattle.std.specs.List.{between as part};
-ghost use Rattle.graph.specs.Events.{event, Present};
 ghost use Rattle.graph.specs.Order.{Po};
-ghost use Rattle.profiles.specs.Modes.{marks, is_sc_fence};
-ghost use Rattle.profiles.specs.Segments.{segment, inner_codes};
+ghost use Rattle.profiles.specs.Segments.{segment};
 ghost use Rattle.profiles.specs.Threads.{codes_of};
-ghost use Rattle.profiles.specs.Scans.{awaits, further, completes, Met, Sums};
+ghost use Rattle.profiles.specs.Scans.{awaits, further, completes, stepped, Met, Sums};
 
 use crate::mode::{is_marking, is_sc_fence};
 use graph::code::{Code, FenceMode};
 use graph::event::{Event, INITIAL};
+use graph::lookup::event_at;
 use graph::order::precedes;
 
 /// How far a release fence, an access and an acquire fence have come, in this order.
-#[derive(Clone, Copy, PartialEq, Eq, Debug)]
+#[derive(Clone, Copy, PartialEq, Eq, Default, Debug)]
 pub enum Stage {
+    #[default]
     Waiting,
     Released,
     Accessed,
@@ -43,7 +43,8 @@ impl Stage {
     }
 }
 
-#[derive(Clone, Copy, PartialEq, Eq, Debug)]
+/// What was met; by default nothing was.
+#[derive(Clone, Copy, PartialEq, Eq, Default, Debug)]
 pub struct Scan {
     /// An access of mode sc, rel or acq was met.
     pub marked: bool,
@@ -53,26 +54,13 @@ pub struct Scan {
 }
 
 impl Scan {
-    /// A scan that has met nothing.
-    pub fn new() -> Scan
-        ensures { Met result [] }
-    {
-        Scan {
-            marked: false,
-            fenced: false,
-            stage: Stage::Waiting,
-        }
-    }
-
     /// The scan after one more event.
     pub fn step(self, code: Code) -> Scan
-        ensures marked { result.marked ≡ (self.marked || marks code) }
-        ensures fenced { result.fenced ≡ (self.fenced || is_sc_fence code) }
-        ensures stage { result.stage ≡ (if awaits self.stage code then further self.stage else self.stage) }
+        ensures { result ≡ stepped self code }
     {
         Scan {
-            marked: self.marked | is_marking(code),
-            fenced: self.fenced | is_sc_fence(code),
+            marked: self.marked || is_marking(code),
+            fenced: self.fenced || is_sc_fence(code),
             stage: self.stage.next(code),
         }
     }
@@ -81,13 +69,10 @@ impl Scan {
     pub fn of_thread(events: &[Event], thread: u8) -> Scan
         ensures { Met result (codes_of thread events.now) }
     {
-        let mut met = Scan::new();
-        for event in events {
-            if event.thread == thread {
-                met = met.step(event.code);
-            }
-        }
-        met
+        events
+            .iter()
+            .filter(|event| event.thread == thread)
+            .fold(Scan::default(), |met, event| met.step(event.code))
     }
 }
 
@@ -108,23 +93,12 @@ impl Summary {
         if !precedes(events, a, b) {
             return None;
         }
+        let last = event_at(events, b)?;
         Some(Summary {
-            first: code_at(events, a),
-            last: code_at(events, b),
-            met: scan_between(events, a, b),
+            first: event_at(events, a)?.code,
+            last: last.code,
+            met: Scan::of_thread(part_between(events, a, b), last.thread),
         })
-    }
-}
-
-// The code of a present event.
-fn code_at(events: &[Event], n: u8) -> Code
-    requires { Present events.now n }
-    ensures { result ≡ (event events.now n).code }
-{
-    if n < INITIAL {
-        Event::initial(n).code
-    } else {
-        events[(n - INITIAL) as usize].code
     }
 }
 
@@ -133,16 +107,6 @@ fn part_between(events: &[Event], a: u8, b: u8) -> &[Event]
     requires { Po events.now a b }
     ensures { result.now ≡ part (a - 7) (b - 8) events.now }
 {
-    let start = if a < INITIAL { INITIAL } else { a + 1 };
+    let start = (a + 1).max(INITIAL);
     &events[(start - INITIAL) as usize..(b - INITIAL) as usize]
-}
-
-fn scan_between(events: &[Event], a: u8, b: u8) -> Scan
-    requires { Po events.now a b }
-    ensures { Met result (inner_codes (segment events.now a b)) }
-{
-    Scan::of_thread(
-        part_between(events, a, b),
-        events[(b - INITIAL) as usize].thread,
-    )
 }

@@ -8,6 +8,9 @@ use std::fmt;
 /// How wide a column is.
 const WIDTH: usize = 28;
 
+/// How many threads there are.
+const THREADS: u8 = 8;
+
 /// A code as it is written in litmus tests: `R acq`.
 #[derive(Clone, Copy)]
 pub struct CodeName(pub Code);
@@ -43,90 +46,82 @@ impl fmt::Display for Label<'_> {
         let Some(event) = event_at(self.events, number) else {
             return write!(f, "{number} absent");
         };
-        let name = CodeName(event.code);
-        let location = event.location;
-        match event.source {
+        let Event {
+            code,
+            location,
+            value,
+            source,
+            ..
+        } = event;
+        write!(f, "{number} {}", CodeName(code))?;
+        match source {
             Some(source) => {
-                let value = match event_at(self.events, source) {
-                    Some(write) => write.value,
-                    None => 0,
-                };
-                write!(f, "{number} {name} x{location} = {value} from {source}")
+                let value = event_at(self.events, source).map_or(0, |write| write.value);
+                write!(f, " x{location} = {value} from {source}")
             }
-            None => {
-                if event.code.is_fence() {
-                    write!(f, "{number} {name}")
-                } else {
-                    let value = event.value;
-                    write!(f, "{number} {name} x{location} = {value}")
-                }
-            }
+            None if code.is_fence() => Ok(()),
+            None => write!(f, " x{location} = {value}"),
         }
     }
 }
 
 /// The drawing. Threads without events have no column.
 pub fn draw(heap: Global, events: &[Event]) -> Result<String, AllocError> {
-    let mut text = String::new(heap);
-    let mut heads = String::new(heap);
-    let mut columns = 0usize;
-    for thread in 0..8u8 {
-        if place_in_thread(events, thread, 0).is_some() {
-            let head = format!(in heap; "thread {thread}")?;
-            put_cell(&mut heads, columns, head.as_str())?;
-            columns = columns.saturating_add(1);
-        }
-    }
-    text.push_str(heads.as_str())?;
+    let mut text = draw_line(
+        heap,
+        events,
+        |thread| -> Result<Option<String>, AllocError> {
+            Ok(Some(format!(in heap; "thread {thread}")?))
+        },
+    )?;
     text.push('\n')?;
     for row in 0..events.len() {
-        let line = draw_row(heap, events, row)?;
-        if !line.is_empty() {
-            text.push_str(line.as_str())?;
-            text.push('\n')?;
+        let line = draw_line(
+            heap,
+            events,
+            |thread| -> Result<Option<String>, AllocError> {
+                let Some(number) = number_in_thread(events, thread, row) else {
+                    return Ok(None);
+                };
+                Ok(Some(format!(in heap; "{}", Label { events, number })?))
+            },
+        )?;
+        if line.is_empty() {
+            break;
         }
+        text.push_str(line.as_str())?;
+        text.push('\n')?;
     }
     Ok(text)
 }
 
-// The events that have `row` events of their thread before them; empty where there is none.
-fn draw_row(heap: Global, events: &[Event], row: usize) -> Result<String, AllocError> {
+// A line with the cell of each thread that has events, where it has one, in the thread's column.
+fn draw_line<F: Fn(u8) -> Result<Option<String>, AllocError>>(
+    heap: Global,
+    events: &[Event],
+    cell_of: F,
+) -> Result<String, AllocError>
+    requires { F.IsAlwaysCallable cell_of }
+{
     let mut line = String::new(heap);
-    let mut column = 0usize;
-    for thread in 0..8u8 {
-        if place_in_thread(events, thread, 0).is_none() {
-            continue;
+    let threads = (0..THREADS).filter(|thread| number_in_thread(events, *thread, 0).is_some());
+    for (column, thread) in threads.enumerate() {
+        if let Some(cell) = cell_of(thread)? {
+            for _ in line.len()..column.saturating_mul(WIDTH) {
+                line.push(' ')?;
+            }
+            line.push_str(cell.as_str())?;
         }
-        if let Some(number) = place_in_thread(events, thread, row) {
-            let cell = format!(in heap; "{}", Label { events, number })?;
-            put_cell(&mut line, column, cell.as_str())?;
-        }
-        column = column.saturating_add(1);
     }
     Ok(line)
 }
 
 // The number of the event of a thread that has `row` events of it before it.
-fn place_in_thread(events: &[Event], thread: u8, row: usize) -> Option<u8> {
-    let mut before = 0usize;
-    let mut number = INITIAL;
-    for event in events {
-        if event.thread == thread {
-            if before == row {
-                return Some(number);
-            }
-            before = before.saturating_add(1);
-        }
-        number = number.saturating_add(1);
-    }
-    None
-}
-
-// Writes a cell into a line at its column.
-fn put_cell(line: &mut String, column: usize, cell: &str) -> Result<(), AllocError> {
-    let start = column.saturating_mul(WIDTH);
-    for _ in line.len()..start {
-        line.push(' ')?;
-    }
-    line.push_str(cell)
+fn number_in_thread(events: &[Event], thread: u8, row: usize) -> Option<u8> {
+    events
+        .iter()
+        .zip(INITIAL..=u8::MAX)
+        .filter(|(event, _)| event.thread == thread)
+        .map(|(_, number)| number)
+        .nth(row)
 }

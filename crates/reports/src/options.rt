@@ -1,23 +1,52 @@
 // What the command line asks for.
+ghost use Rattle.reports.specs.ProfileNames.{Named};
+
 use std::fmt;
+use std::str::FromStr;
 
 /// What standard input holds.
-#[derive(Clone, Copy, PartialEq, Eq, Debug)]
+#[derive(Clone, Copy, PartialEq, Eq, Default, Debug)]
 pub enum Input {
     /// A script of calls on a graph.
+    #[default]
     Script,
     /// A list of steps between numbered events.
     Steps,
 }
 
 /// The profiles that go by a name.
-#[derive(Clone, Copy, PartialEq, Eq, Debug)]
+#[derive(Clone, Copy, PartialEq, Eq, Default, Debug)]
 pub enum ProfileName {
     Strict,
+    #[default]
     Jam21,
 }
 
-#[derive(Clone, Copy, PartialEq, Eq, Debug)]
+impl FromStr for ProfileName {
+    type Err = BadOption;
+
+    ghost from_str_gives = { Named };
+
+    fn from_str(name: &str) -> Result<ProfileName, BadOption> {
+        match name {
+            "strict" => Ok(ProfileName::Strict),
+            "jam21" => Ok(ProfileName::Jam21),
+            _ => Err(BadOption::UnknownProfile),
+        }
+    }
+}
+
+impl fmt::Display for ProfileName {
+    fn fmt<W: fmt::Write>(&self, f: &mut fmt::Formatter<W>) -> fmt::Result {
+        f.write_str(match self {
+            ProfileName::Strict => "strict",
+            ProfileName::Jam21 => "jam21",
+        })
+    }
+}
+
+/// What is asked for; with no options a script, under JAM21.
+#[derive(Clone, Copy, PartialEq, Eq, Default, Debug)]
 pub struct Options {
     pub input: Input,
     pub profile: ProfileName,
@@ -36,11 +65,11 @@ pub enum BadOption {
 
 impl fmt::Display for BadOption {
     fn fmt<W: fmt::Write>(&self, f: &mut fmt::Formatter<W>) -> fmt::Result {
-        match self {
-            BadOption::Unknown => f.write_str("this option is not known; --help lists them"),
-            BadOption::NoProfile => f.write_str("--profile wants a name: strict or jam21"),
-            BadOption::UnknownProfile => f.write_str("the profiles are strict and jam21"),
-        }
+        f.write_str(match self {
+            BadOption::Unknown => "this option is not known; --help lists them",
+            BadOption::NoProfile => "--profile wants a name: strict or jam21",
+            BadOption::UnknownProfile => "the profiles are strict and jam21",
+        })
     }
 }
 
@@ -63,16 +92,6 @@ Options:
 ";
 
 impl Options {
-    /// With no options: a script, under JAM21.
-    pub fn new() -> Options {
-        Options {
-            input: Input::Script,
-            profile: ProfileName::Jam21,
-            pairs: false,
-            help: false,
-        }
-    }
-
     /// The options with one more word of the command line; `--profile` takes its name in the word after it.
     pub fn with(self, word: &str) -> Result<Options, BadOption> {
         match word {
@@ -91,16 +110,9 @@ impl Options {
 
     /// The options with a profile by its name.
     pub fn with_profile(self, name: &str) -> Result<Options, BadOption> {
-        match name {
-            "strict" => Ok(Options {
-                profile: ProfileName::Strict,
-                ..self
-            }),
-            "jam21" => Ok(Options {
-                profile: ProfileName::Jam21,
-                ..self
-            }),
-            _ => Err(BadOption::UnknownProfile),
-        }
+        Ok(Options {
+            profile: name.parse()?,
+            ..self
+        })
     }
 }

@@ -1,9 +1,12 @@
 // The pairs of events that a profile keeps and pushes, in words.
-ghost use Rattle.std.specs.Prelude.{◌≡◌, MatchOption};
+ghost use Rattle.std.specs.Prelude.{◌≡◌, true, false, MatchOption};
 ghost use Rattle.profiles.specs.Rules.{Kept};
+ghost use Rattle.profiles.specs.Strict.{strict};
 
-use graph::event::{Event, INITIAL};
+use graph::event::Event;
 use profiles::jam21::Rules;
+use profiles::profile::Profile;
+use profiles::strict::Strict;
 use std::fmt;
 
 /// A pair with the JAM21 rules that keep it: `8 -> 10 kept by ra spush, pushed`.
@@ -20,38 +23,58 @@ impl RulePair {
         ensures { MatchOption result (Kept events.now first second → ⊥) (λ p. (p.first ≡ first) × ((p.second ≡ second) × Kept events.now first second)) }
     {
         let rules = Rules::of(events, first, second);
-        if rules.ra | rules.svo | rules.spush | rules.volint {
-            Some(RulePair {
-                first,
-                second,
-                rules,
-            })
-        } else {
-            None
-        }
+        rules.keeps().then_some(RulePair {
+            first,
+            second,
+            rules,
+        })
     }
 }
 
 impl fmt::Display for RulePair {
     fn fmt<W: fmt::Write>(&self, f: &mut fmt::Formatter<W>) -> fmt::Result {
-        let first = self.first;
-        let second = self.second;
+        let RulePair {
+            first,
+            second,
+            rules,
+        } = *self;
         write!(f, "{first} -> {second} kept by")?;
-        if self.rules.ra {
-            f.write_str(" ra")?;
-        }
-        if self.rules.svo {
-            f.write_str(" svo")?;
-        }
-        if self.rules.spush {
-            f.write_str(" spush")?;
-        }
-        if self.rules.volint {
-            f.write_str(" volint")?;
-        }
-        if first >= INITIAL && (self.rules.spush || self.rules.volint) {
-            f.write_str(", pushed")?;
+        let names = [
+            (rules.ra, " ra"),
+            (rules.svo, " svo"),
+            (rules.spush, " spush"),
+            (rules.volint, " volint"),
+            (rules.pushes(first), ", pushed"),
+        ];
+        for (holds, name) in names {
+            if holds {
+                f.write_str(name)?;
+            }
         }
         Ok(())
+    }
+}
+
+/// A pair that the strict profile keeps and pushes: `8 -> 10 kept, pushed`.
+#[derive(Clone, Copy)]
+pub struct StrictPair {
+    pub first: u8,
+    pub second: u8,
+}
+
+impl StrictPair {
+    /// The pair, where the first event is an added one that precedes the second in program order.
+    pub fn of(events: &[Event], first: u8, second: u8) -> Option<StrictPair>
+        ensures { MatchOption result (strict.pushed events.now first second ≡ false) (λ p. (p.first ≡ first) × ((p.second ≡ second) × (strict.pushed events.now first second ≡ true))) }
+    {
+        Strict
+            .pushes(events, first, second)
+            .then_some(StrictPair { first, second })
+    }
+}
+
+impl fmt::Display for StrictPair {
+    fn fmt<W: fmt::Write>(&self, f: &mut fmt::Formatter<W>) -> fmt::Result {
+        write!(f, "{} -> {} kept, pushed", self.first, self.second)
     }
 }

@@ -2,7 +2,7 @@
 use graph::call::Call;
 use graph::code::{Code, FenceMode, ReadMode, WriteMode};
 use std::fmt;
-use std::str::SplitWhitespace;
+use std::str::{FromStr, SplitWhitespace};
 
 /// Why a line is no call.
 #[derive(Clone, Copy, PartialEq, Eq, Debug)]
@@ -16,17 +16,14 @@ pub enum BadLine {
 
 impl fmt::Display for BadLine {
     fn fmt<W: fmt::Write>(&self, f: &mut fmt::Formatter<W>) -> fmt::Result {
-        match self {
-            BadLine::UnknownCall => f.write_str("a call is `add`, `source` or `back`"),
-            BadLine::UnknownCode => f.write_str(
+        f.write_str(match self {
+            BadLine::UnknownCall => "a call is `add`, `source` or `back`",
+            BadLine::UnknownCode =>
                 "a code is R, W or F with a mode, as in `R acq`, or a number up to 255",
-            ),
-            BadLine::NotANumber => f.write_str(
-                "a number up to 255, or a value of 32 bits, is wanted",
-            ),
-            BadLine::MissingWord => f.write_str("the call lacks an argument"),
-            BadLine::ExtraWord => f.write_str("a word follows the call"),
-        }
+            BadLine::NotANumber => "a number up to 255, or a value of 32 bits, is wanted",
+            BadLine::MissingWord => "the call lacks an argument",
+            BadLine::ExtraWord => "a word follows the call",
+        })
     }
 }
 
@@ -35,10 +32,7 @@ impl fmt::Display for BadLine {
 /// `add THREAD CODE LOCATION VALUE` takes a code by its letter and mode or by its number; location and
 /// value may be left out, and are 0 then.
 pub fn read_call(line: &str) -> Result<Option<Call>, BadLine> {
-    let text = match line.split_once('#') {
-        Some((before, _)) => before,
-        None => line,
-    };
+    let text = line.split_once('#').map_or(line, |(before, _)| before);
     let mut words = text.split_whitespace();
     let Some(name) = words.next() else {
         return Ok(None);
@@ -46,36 +40,28 @@ pub fn read_call(line: &str) -> Result<Option<Call>, BadLine> {
     let call = match name {
         "add" => read_addition(&mut words)?,
         "source" => Call::Source {
-            read: read_byte(words.next())?,
-            write: read_byte(words.next())?,
+            read: read_number(next_word(&mut words)?)?,
+            write: read_number(next_word(&mut words)?)?,
         },
         "back" => Call::TakeBack,
         _ => return Err(BadLine::UnknownCall),
     };
-    match words.next() {
-        Some(_) => Err(BadLine::ExtraWord),
-        None => Ok(Some(call)),
+    if words.next().is_some() {
+        return Err(BadLine::ExtraWord);
     }
+    Ok(Some(call))
 }
 
 // The arguments of `add`.
 fn read_addition(words: &mut SplitWhitespace<'_>) -> Result<Call, BadLine> {
-    let thread = read_byte(words.next())?;
-    let Some(kind) = words.next() else {
-        return Err(BadLine::MissingWord);
-    };
+    let thread = read_number(next_word(words)?)?;
+    let kind = next_word(words)?;
     let code = match kind {
-        "R" | "W" | "F" => read_code(kind, words.next())?,
-        _ => read_byte(Some(kind))?,
+        "R" | "W" | "F" => read_code(kind, next_word(words)?)?.number(),
+        _ => read_number(kind)?,
     };
-    let location = match words.next() {
-        Some(word) => read_byte(Some(word))?,
-        None => 0,
-    };
-    let value = match words.next() {
-        Some(word) => read_value(word)?,
-        None => 0,
-    };
+    let location = words.next().map_or(Ok(0), read_number)?;
+    let value = words.next().map_or(Ok(0), read_number)?;
     Ok(Call::Add {
         thread,
         code,
@@ -84,41 +70,33 @@ fn read_addition(words: &mut SplitWhitespace<'_>) -> Result<Call, BadLine> {
     })
 }
 
-// The number of a code by its letter and its mode.
-fn read_code(kind: &str, mode: Option<&str>) -> Result<u8, BadLine> {
-    let Some(mode) = mode else {
-        return Err(BadLine::MissingWord);
-    };
-    let code = match (kind, mode) {
-        ("R", "na") => Code::Read(ReadMode::Na),
-        ("R", "rlx") => Code::Read(ReadMode::Rlx),
-        ("R", "acq") => Code::Read(ReadMode::Acq),
-        ("R", "sc") => Code::Read(ReadMode::Sc),
-        ("W", "na") => Code::Write(WriteMode::Na),
-        ("W", "rlx") => Code::Write(WriteMode::Rlx),
-        ("W", "rel") => Code::Write(WriteMode::Rel),
-        ("W", "sc") => Code::Write(WriteMode::Sc),
-        ("F", "acq") => Code::Fence(FenceMode::Acq),
-        ("F", "rel") => Code::Fence(FenceMode::Rel),
-        ("F", "sc") => Code::Fence(FenceMode::Sc),
-        _ => return Err(BadLine::UnknownCode),
-    };
-    Ok(code.number())
-}
-
-fn read_byte(word: Option<&str>) -> Result<u8, BadLine> {
-    let Some(word) = word else {
-        return Err(BadLine::MissingWord);
-    };
-    match word.parse::<u8>() {
-        Ok(number) => Ok(number),
-        Err(_) => Err(BadLine::NotANumber),
+// A code by its letter and its mode. The names stand here and in `CodeName`, since a `match` over text and one over codes are each
+// plainer than a table that serves both.
+fn read_code(kind: &str, mode: &str) -> Result<Code, BadLine> {
+    match (kind, mode) {
+        ("R", "na") => Ok(Code::Read(ReadMode::Na)),
+        ("R", "rlx") => Ok(Code::Read(ReadMode::Rlx)),
+        ("R", "acq") => Ok(Code::Read(ReadMode::Acq)),
+        ("R", "sc") => Ok(Code::Read(ReadMode::Sc)),
+        ("W", "na") => Ok(Code::Write(WriteMode::Na)),
+        ("W", "rlx") => Ok(Code::Write(WriteMode::Rlx)),
+        ("W", "rel") => Ok(Code::Write(WriteMode::Rel)),
+        ("W", "sc") => Ok(Code::Write(WriteMode::Sc)),
+        ("F", "acq") => Ok(Code::Fence(FenceMode::Acq)),
+        ("F", "rel") => Ok(Code::Fence(FenceMode::Rel)),
+        ("F", "sc") => Ok(Code::Fence(FenceMode::Sc)),
+        _ => Err(BadLine::UnknownCode),
     }
 }
 
-fn read_value(word: &str) -> Result<u32, BadLine> {
-    match word.parse::<u32>() {
-        Ok(number) => Ok(number),
-        Err(_) => Err(BadLine::NotANumber),
-    }
+// The next word, where the call wants one.
+fn next_word<'a>(words: &mut SplitWhitespace<'a>) -> Result<&'a str, BadLine> {
+    words.next().ok_or(BadLine::MissingWord)
+}
+
+fn read_number<T: FromStr>(word: &str) -> Result<T, BadLine>
+where
+    T::Err: Drop,
+{
+    word.parse().map_err(|_| BadLine::NotANumber)
 }

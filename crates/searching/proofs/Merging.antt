@@ -1,11 +1,14 @@
 -- The row of what stands for the open events, column by column.
-use Rattle.std.proofs.Common.{◌≡◌, ℕ, ◌+◌, ◌*◌, ◌<◌, ◌≤◌, Bool, false, List, length, get_or, set, Decides, sym, refl, ap, ◌∙◌, subst, inl, inr, mul-le-mul, arith, below_more}
-use Rattle.std.proofs.lemmas.List.{get_or-set_same, get_or-set_other}
-use Rattle.std.proofs.lemmas.Bool.{cases_lt, both_ways}
+use lib.Arith.{digits_lt}
+use Rattle.std.proofs.Common.{◌≡◌, ℕ, ◌+◌, ◌*◌, ◌<◌, ◌≤◌, ◌≢◌, ◌⊎◌, Bool, List, length, get_or, Decides, sym, refl, ap, ◌∙◌, subst, inl, inr, arith}
+use Rattle.std.proofs.lemmas.List.{get_or-take}
+use Rattle.std.proofs.lemmas.Bool.{cases_lt}
 use Rattle.std.proofs.lemmas.Bool.Decides.{Decides-like}
 use Rattle.measures.specs.Reach.{yes}
 use Rattle.measures.specs.Walks.{at}
 use Rattle.graph.specs.declared.event.Event.{Event}
+use Rattle.axioms.specs.declared.table.EventTable.{EventTable}
+use Rattle.axioms.specs.EventTables.{cells_of, CellSet}
 use Rattle.axioms.specs.Tables.{Drawn}
 use Rattle.coherence.specs.Visibility.{Fits}
 use Rattle.searching.specs.Sieves.{Cyclic, CyclicSoFar, OpenPush, Merging, tabled}
@@ -14,30 +17,55 @@ use Rattle.searching.proofs.Tabled.{tells_yes, yes_tells}
 
 module _ (n : ℕ) (xs E placed : List ℕ) where
   -- The first columns of row 0 are written, and the other rows are as they were.
-  pub record MergedTo (ys : List ℕ) (column : ℕ) : Type 0 where
-    pub row : (c : ℕ) → c < column → Decides (yes (get_or ys c 0)) (OpenPush n xs E placed c)
-    pub rest : (k : ℕ) → n ≤ k → get_or ys k 0 ≡ get_or xs k 0
+  pub record MergedTo (t : EventTable) (column : ℕ) : Type 0 where
+    pub side : t.side ≡ n
+    pub row : (c : ℕ) → c < column → c < n → Decides (yes (at n t.cells 0 c)) (OpenPush n xs E placed c)
+    pub rest : (a c : ℕ) → 0 < a → a < n → c < n → at n t.cells a c ≡ at n xs a c
 
-  pub merged_more : (ys : List ℕ) (column v : ℕ) → column < n → column < length ys → Decides (yes v) (OpenPush n xs E placed column) → MergedTo ys column → MergedTo (set ys column v) (column + 1)
-  merged_more ys column v h room here so_far = record {
-    row = below_more (λ c. Decides (yes (get_or (set ys column v) c 0)) (OpenPush n xs E placed c)) column
-        (λ c k. subst (λ y. Decides (yes y) (OpenPush n xs E placed c)) (sym (get_or-set_other ys column c v 0 (λ e. omega arith))) (so_far.row c k))
-        (subst (λ y. Decides (yes y) (OpenPush n xs E placed column)) (sym (get_or-set_same ys column v 0 room)) here);
-    rest = λ k p. get_or-set_other ys column k v 0 (λ e. omega arith) ∙ so_far.rest k p;
+  own : (t : EventTable) → t.side ≡ n → (a c : ℕ) → a < n → c < n → at n (cells_of t) a c ≡ at n t.cells a c
+  own t side a c p q =
+      let within : a * n + c < t.side * t.side = rw side (digits_lt p q) in
+      get_or-take (t.side * t.side) t.cells (a * n + c) 0 within
+
+  pub merged_none : (t : EventTable) → t.side ≡ n → cells_of t ≡ xs → MergedTo t 0
+  merged_none t side copied = record {
+    side = side;
+    row = λ c h p. absurd (omega arith);
+    rest = λ a c some p q. sym (own t side a c p q) ∙ ap (λ ys. get_or ys (a * n + c) 0) copied;
   }
 
-  pub merged_all : (ys : List ℕ) (column : ℕ) → n ≤ column → MergedTo ys column → Drawn (Merging n xs E placed) n ys
-  merged_all ys column all m a c p q =
+  pub merged_more : (t u : EventTable) (column : ℕ) (v : Bool) → column < n → CellSet t u 0 column v → Decides v (OpenPush n xs E placed column) →
+      MergedTo t column → MergedTo u (column + 1)
+  merged_more t u column v h marked told so_far =
+      let is = so_far.side in
+      let here : yes (at n u.cells 0 column) ≡ v = subst (λ k. yes (at k u.cells 0 column) ≡ v) is (marked.here (omega arith) (omega arith)) in
+      let elsewhere : (c d : ℕ) → c < n → d < n → (c ≢ 0) ⊎ (d ≢ column) → at n u.cells c d ≡ at n t.cells c d = λ c d p q ne.
+      subst (λ k. at k u.cells c d ≡ at k t.cells c d) is (marked.elsewhere c d (omega arith) (omega arith) ne) in
+      record {
+        side = marked.side ∙ is;
+        row = λ c k p. elim (cases_lt c column) [
+          | inl l ↦
+              let other : c ≢ column = omega arith in
+              subst (λ y. Decides (yes y) (OpenPush n xs E placed c)) (sym (elsewhere 0 c (omega arith) p (inr other))) (so_far.row c l p)
+          | inr l ↦
+              let same : column ≡ c = omega arith in
+              subst (λ z. Decides (yes (at n u.cells 0 z)) (OpenPush n xs E placed z)) same
+              (subst (λ b. Decides b (OpenPush n xs E placed column)) (sym here) told)
+        ];
+        rest = λ a c some p q. let other : a ≢ 0 = omega arith in elsewhere a c p q (inl other) ∙ so_far.rest a c some p q;
+      }
+
+  pub merged_all : (t : EventTable) (column : ℕ) → n ≤ column → MergedTo t column → Drawn (Merging n xs E placed) n (cells_of t)
+  merged_all t column all m a c p q =
       elim (cases_lt 0 a) [
         | inl some ↦
-            let lower : 1 * n ≤ a * n = mul-le-mul some (omega arith) in
-            let same : yes (at n ys a c) ≡ yes (at n xs a c) = ap yes (m.rest (a * n + c) (omega arith)) in
+            let same : yes (at n (cells_of t) a c) ≡ yes (at n xs a c) = ap yes (own t m.side a c p q ∙ m.rest a c some p q) in
             (λ e. inl (some, sym same ∙ e), λ h. elim h [ inl own ↦ same ∙ own.1 | inr any ↦ absurd (omega (arith, any.0)) ])
         | inr none ↦
             let zero_row : 0 ≡ a = omega arith in
-            let here : 0 * n + c ≡ c = omega arith in
-            let d = subst (λ k. Decides (yes (get_or ys k 0)) (OpenPush n xs E placed c)) (sym here) (m.row c (omega arith)) in
-            subst (λ z. Decides (yes (at n ys z c)) (Merging n xs E placed z c)) zero_row
+            let first : 0 < n = omega arith in
+            let d = subst (λ w. Decides (yes w) (OpenPush n xs E placed c)) (sym (own t m.side 0 c first q)) (m.row c (omega arith) q) in
+            subst (λ z. Decides (yes (at n (cells_of t) z c)) (Merging n xs E placed z c)) zero_row
             (λ e. inr (refl, d.0 e), λ h. elim h [ inl own ↦ absurd (omega (arith, own.0)) | inr any ↦ d.1 any.1 ])
       ]
 
@@ -69,10 +97,3 @@ so_far_told es kept pushed E placed L ys has fits-pushed fits drawn d =
     (λ c. record { merged = ys; pushed_fits = fits-pushed; drawn = drawn; cyclic = c })
     (same_cycles es kept pushed E placed L ys drawn fits)
     d
-
--- What 1 and 0 say in a table.
-pub marked_yes : {P : Type 0} (v : ℕ) → v ≡ 1 → P → Decides (yes v) P
-marked_yes v e p = (λ _. p, λ _. ap yes e)
-
-pub marked_no : {P : Type 0} (v : ℕ) → v ≡ 0 → (r : Bool) → r ≡ false → Decides r P → Decides (yes v) P
-marked_no v e r f d = (λ y. absurd (both_ways (yes v) (ap yes e) y), λ p. absurd (both_ways r f (d.1 p)))

@@ -1,5 +1,6 @@
 -- The profile that two tables tell.
-use Rattle.std.proofs.Common.{◌≡◌, ℕ, ◌+◌, ◌<◌, Bool, true, ◌&&◌, ltb, List, length, Decides, arith}
+use Rattle.std.proofs.Common.{◌≡◌, ℕ, ◌+◌, ◌<◌, Bool, true, false, ◌&&◌, ltb, List, length, Decides, Ok, Err, Result, sym, ◌∙◌, subst, arith}
+use Rattle.std.specs.Result.{result_unwrap_or}
 use Rattle.std.proofs.lemmas.Bool.{and_parts, and_from, lt-ltb, ltb-true}
 use Rattle.std.proofs.lemmas.Bool.Decides.{Decides-like}
 use Rattle.measures.specs.Reach.{yes}
@@ -9,6 +10,12 @@ use Rattle.profiles.specs.Laws.{Lawful}
 use Rattle.profiles.specs.Meaning.{Meaning}
 use Rattle.axioms.specs.Relations.{Kept, Pushed, CoherenceCycle}
 use Rattle.axioms.specs.Tables.{Drawn}
+use Rattle.measures.specs.declared.settling.Refusal.{Refusal}
+use Rattle.axioms.specs.EventTables.{cells_of}
+use Rattle.coherence.specs.declared.sight.Sight.{Sight}
+use Rattle.coherence.specs.declared.visibility.Visibility.{Visibility}
+use Rattle.coherence.specs.Coherence.{TestAnswer}
+use Rattle.coherence.specs.Seen.{VisibilityOf}
 use Rattle.coherence.specs.Visibility.{Fits, Told, Within}
 use Rattle.coherence.proofs.Drawable.{lawful_within}
 use Rattle.searching.specs.Sieves.{Cyclic, tells, tabled}
@@ -77,3 +84,16 @@ cyclic_told es kept pushed L ys has fits_kept fits_pushed drawn decides =
     (λ c. record { kept_fits = fits_kept; pushed_fits = fits_pushed; cycle = c })
     (λ c. c.cycle)
     (decides m L (drawn m (tabled_within es kept pushed) (tabled_drawn n kept) (tabled_drawn n pushed)))
+
+-- The same of a test of the visibility that is drawn from them.
+pub answered_told : (es : List Event) (kept pushed L : List ℕ) (v : Visibility) (s : Sight) (r : Result Bool Refusal) →
+    VisibilityOf es kept pushed L v → s.events.now ≡ v.events.now → s.leads.now ≡ cells_of v.table → TestAnswer s r →
+    Decides (result_unwrap_or r false) (Cyclic es kept pushed L)
+answered_told es kept pushed L v s (Ok has) seen events leads told =
+    let of-events = subst (λ xs. (m : Meaning) (M : List ℕ) → Told m xs M s.leads.now → Decides has (CoherenceCycle m xs M)) (events ∙ seen.events) told.1 in
+    cyclic_told es kept pushed L (cells_of v.table) has seen.kept_fits seen.pushed_fits seen.within
+    (subst (λ ys. (m : Meaning) (M : List ℕ) → Told m es M ys → Decides has (CoherenceCycle m es M)) leads of-events)
+answered_told es kept pushed L v s (Err why) seen events leads refused =
+    let n = length es + 8 in
+    let fits = (seen.within (tabled n kept pushed) (tabled_within es kept pushed) (tabled_drawn n kept) (tabled_drawn n pushed)).fits in
+    absurd (refused.unfit (subst (λ xs. Fits xs s.leads.now) (sym (events ∙ seen.events)) (subst (Fits es) (sym leads) fits)))

@@ -13,15 +13,15 @@ use orders::precedence::{MOST_ITEMS, Precedence};
 pub(crate) fn precedence_of(reach: &SourceReach, events: &[u8]) -> Option<Precedence>
     ensures { MatchOption result (8 < length events.now) (λ b. (es : List Event) → Reached es reach.now → Proper es → Leading es events.now b) }
 {
-    if events.len() > MOST_ITEMS as usize {
+    if events.len() > usize::from(MOST_ITEMS) {
         return None;
     }
     let count = events.len() as u8;
     let mut precedence = Precedence::none(count)?;
-    for first in 0..count {
-        for second in 0..count {
-            if reach.leads(events[first as usize], events[second as usize]) {
-                precedence.add(first, second);
+    for (first, earlier) in events.iter().enumerate() {
+        for (second, later) in events.iter().enumerate() {
+            if reach.leads(*earlier, *later) {
+                precedence.add(first as u8, second as u8);
             }
         }
     }

@@ -41,29 +41,25 @@ pub fn search<P: Profile>(
     ensures only { (new : List ℕ) (other : Result Answer Refused) → Searches (P.meaning profile.now) (added_events graph.now) buffer.old new other → (other ≡ result) × (new ≡ buffer.new) }
 {
     if buffer.len() < LEAST_BUFFER {
-        return Err(Refused::plain(Refusal::BufferTooShort));
+        return Err(Refusal::BufferTooShort.into());
     }
     let events = graph.events();
-    let pairs = match Pairs::ask(profile, events) {
-        Ok(pairs) => pairs,
-        Err(_) => unreachable(),
+    // A graph has at most 56 events, so no table is refused.
+    let Ok(pairs) = Pairs::ask(profile, events) else {
+        unreachable()
     };
-    let reach = match SourceReach::of(events) {
-        Ok(reach) => reach,
-        Err(_) => unreachable(),
+    let Ok(reach) = SourceReach::of(events) else {
+        unreachable()
     };
+    // A fixed list, since there is no heap; it is a slice as soon as its length is known.
     let mut list = [0; 64];
     let count = pairs.pushing(&mut list);
     let pushing = &list[0..count];
-    let Some(precedence) = precedence_of(&reach, pushing) else {
-        return Err(Refused::plain(Refusal::TooManyPush));
-    };
+    let precedence = precedence_of(&reach, pushing).ok_or(Refusal::TooManyPush)?;
     if reach.has_cycle() {
         return Ok(Answer::SourceCycle);
     }
-    let Some(_) = find_order(&precedence, &Anything) else {
-        return Err(Refused::plain(Refusal::NoLawfulOrder));
-    };
+    find_order(&precedence, &Anything).ok_or(Refusal::NoLawfulOrder)?;
     match find_good(events, &pairs, pushing, &precedence) {
         Some(order) => {
             write_order(pushing, &order, buffer);
@@ -100,7 +96,7 @@ fn write_order(pushing: &[u8], order: &[u8; 8], buffer: &mut [u8])
     requires items { (i : ℕ) → i < length pushing.now → slice_index order.now i < length pushing.now }
     ensures { buffer.new ≡ picked pushing.now (take (length pushing.now) order.now) ++ drop (length pushing.now) buffer.old }
 {
-    for place in 0..pushing.len() {
-        buffer[place] = pushing[order[place] as usize];
+    for (place, item) in order[0..pushing.len()].iter().enumerate() {
+        buffer[place] = pushing[usize::from(*item)];
     }
 }

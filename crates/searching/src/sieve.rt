@@ -1,13 +1,14 @@
 // Sorting out the push orders under which there is a coherence cycle.
-ghost use Rattle.std.specs.Prelude.{◌≡◌, ◌+◌, ◌-◌, ◌<◌, ◌≤◌, ◌++◌, length, replicate, Decides, MatchOption};
+ghost use Rattle.std.specs.Prelude.{◌≡◌, ◌+◌, ◌-◌, ◌<◌, ◌≤◌, ◌++◌, length, replicate, Decides, MatchOption, slice_index};
+ghost use Rattle.measures.specs.Walks.{Yes};
+ghost use Rattle.orders.specs.Orders.{Among};
 ghost use Rattle.coherence.specs.Visibility.{Fits};
 ghost use Rattle.searching.specs.Listing.{picked};
 ghost use Rattle.searching.specs.Sieves.{Fails, Cyclic, CyclicSoFar, OpenPush, NoItem};
 
-use coherence::sight::Sight;
-use coherence::visibility::draw_visibility;
+use axioms::table::EventTable;
+use coherence::visibility::Visibility;
 use graph::event::{Event, INITIAL};
-use measures::settling::LARGEST;
 use orders::items::is_among;
 use orders::precedence::MOST_ITEMS;
 use orders::sieve::Sieve;
@@ -35,19 +36,14 @@ impl Sieve for CycleSieve<'_> {
     ghost fails = { λ s q. Fails s.events.now s.kept.now s.pushed.now s.pushing.now q };
 
     fn rejects(&self, placed: &[u8], count: u8) -> bool {
-        if count > MOST_ITEMS {
-            return false;
-        }
-        if self.pushing.len() != count as usize {
-            return false;
-        }
-        if placed.len() > count as usize {
+        let whole = usize::from(count);
+        if count > MOST_ITEMS || self.pushing.len() != whole || placed.len() > whole {
             return false;
         }
         let Some(list) = pick(self.pushing, placed) else {
             return false;
         };
-        if placed.len() == count as usize {
+        if placed.len() == whole {
             return has_cycle(self.events, self.kept, self.pushed, &list[0..placed.len()]);
         }
         self.has_cycle_so_far(placed, &list[0..placed.len() + 1])
@@ -60,60 +56,54 @@ impl CycleSieve<'_> {
         requires { length self.now.pushing.now ≤ 8 }
         ensures { Decides result (CyclicSoFar self.now.events.now self.now.kept.now self.now.pushed.now self.now.pushing.now placed.now list.now) }
     {
-        let side = self.events.len() + INITIAL as usize;
-        if side > LARGEST {
+        let Ok(mut pushed) = EventTable::copy(self.events, self.pushed) else {
             return false;
+        };
+        for column in 0..pushed.side() as u8 {
+            pushed.mark(OPEN, column, self.has_open_push(placed, column));
         }
-        if self.pushed.len() != side * side {
-            return false;
-        }
-        let mut table = [0; 4096];
-        let pushed = &mut table[0..side * side];
-        pushed.copy_from_slice(self.pushed);
-        for column in 0..side {
-            pushed[column] = if self.has_open_push(placed, column) {
-                1
-            } else {
-                0
-            };
-        }
-        has_cycle(self.events, self.kept, pushed, list)
+        has_cycle(self.events, self.kept, pushed.cells(), list)
     }
 
     // Does an open event push to this one?
-    fn has_open_push(&self, placed: &[u8], column: usize) -> bool
+    fn has_open_push(&self, placed: &[u8], column: u8) -> bool
         requires few { length self.now.pushing.now ≤ 8 }
         requires fits { Fits self.now.events.now self.now.pushed.now }
         requires within { column < length self.now.events.now + 8 }
         ensures { Decides result (OpenPush (length self.now.events.now + 8) self.now.pushed.now self.now.pushing.now placed.now column) }
     {
-        let side = self.events.len() + INITIAL as usize;
-        for item in 0..self.pushing.len() {
-            let row = self.pushing[item] as usize;
-            if row < side {
-                if !is_among(placed, item as u8) {
-                    if self.pushed[row * side + column] != 0 {
-                        return true;
-                    }
-                }
-            }
-        }
-        false
+        (0..self.pushing.len()).any(
+            |item|
+                requires within { item < length self.now.pushing.now }
+                requires few { length self.now.pushing.now ≤ 8 }
+                requires fits { Fits self.now.events.now self.now.pushed.now }
+                requires column { column < length self.now.events.now + 8 }
+                ensures { Decides result ((Among placed.entry.now item → ⊥) × Yes (length self.entry.now.events.now + 8) self.entry.now.pushed.now (slice_index self.entry.now.pushing.now item) column) }
+            { !is_among(placed, item as u8) && self.pushes_to(self.pushing[item], column) },
+        )
+    }
+
+    // Does this event push to the one of a column?
+    fn pushes_to(&self, event: u8, column: u8) -> bool
+        requires fits { Fits self.now.events.now self.now.pushed.now }
+        requires within { column < length self.now.events.now + 8 }
+        ensures { Decides result (Yes (length self.now.events.now + 8) self.now.pushed.now event column) }
+    {
+        let side = self.events.len() + usize::from(INITIAL);
+        let row = usize::from(event);
+        row < side && self.pushed[row * side + usize::from(column)] != 0
     }
 }
 
 // The events at these places of the list, and then `OPEN`. There is no answer where the list has no such place.
+// The array is longer than the places, since there is no heap; the caller knows how many there are.
 fn pick(pushing: &[u8], placed: &[u8]) -> Option<[u8; 9]>
     requires { length placed.now ≤ 8 }
     ensures { MatchOption result (NoItem pushing.now placed.now) (λ list. list ≡ picked pushing.now placed.now ++ replicate (9 - length placed.now) 0) }
 {
     let mut list = [OPEN; 9];
-    for place in 0..placed.len() {
-        let item = placed[place] as usize;
-        if item >= pushing.len() {
-            return None;
-        }
-        list[place] = pushing[item];
+    for (place, item) in placed.iter().enumerate() {
+        list[place] = *pushing.get(usize::from(*item))?;
     }
     Some(list)
 }
@@ -122,22 +112,8 @@ fn pick(pushing: &[u8], placed: &[u8]) -> Option<[u8; 9]>
 fn has_cycle(events: &[Event], kept: &[u8], pushed: &[u8], list: &[u8]) -> bool
     ensures { Decides result (Cyclic events.now kept.now pushed.now list.now) }
 {
-    let side = events.len() + INITIAL as usize;
-    if side > LARGEST {
+    let Ok(visibility) = Visibility::of(events, kept, pushed, list) else {
         return false;
-    }
-    let mut table = [0; 4096];
-    let cells = &mut table[0..side * side];
-    match draw_visibility(events, kept, pushed, list, cells) {
-        Ok(()) => {}
-        Err(_) => return false,
-    }
-    let sight = Sight {
-        events,
-        leads: cells,
     };
-    match sight.has_coherence_cycle() {
-        Ok(has) => has,
-        Err(_) => false,
-    }
+    visibility.sight().has_coherence_cycle().unwrap_or(false)
 }

@@ -1,16 +1,10 @@
--- How many entries of a size there is room for, and that a section is whole in one way or cut in one place.
-use Rattle.std.proofs.Common.{◌≡◌, ℕ, ◌+◌, ◌*◌, ◌/◌, ◌<◌, ◌≤◌, List, Ok, Err, Result, sym, refl, ap, ◌∙◌, inl, inr, mul-le-mul_right, div-lt_iff_lt-mul, le-div_iff_mul-le, arith}
+-- A section is whole in one way or cut in one place.
+use Rattle.std.proofs.Common.{◌≡◌, ℕ, List, Ok, Err, Result, sym, refl, ap, ◌∙◌, inl, inr, mul-le-mul_right, arith}
 use Rattle.std.proofs.lemmas.Bool.{cases_order}
 use Rattle.sections.specs.declared.Section.{Section}
 use Rattle.sections.specs.declared.Cut.{Cut}
 use Rattle.sections.specs.declared.Cut.TheVariants.{NoCount, InEntry}
 use Rattle.sections.specs.Sections.{Whole, Ended, Sectioned}
-
-pub has_room : (room size k : ℕ) → 0 < size → k ≤ room / size → k * size ≤ room
-has_room room size k some h = (le-div_iff_mul-le some).0 h
-
-pub no_room : (room size : ℕ) → 0 < size → room < (room / size + 1) * size
-no_room room size some = let next : room / size < room / size + 1 = omega arith in (div-lt_iff_lt-mul some).0 next
 
 -- A section that is whole is not cut.
 pub whole_not_cut : (bs : List ℕ) (start size : ℕ) (s : Section) → Whole bs start size s → (c : Cut) → Ended bs start size c → ⊥

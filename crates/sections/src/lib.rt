@@ -29,6 +29,7 @@ impl Cut {
     pub fn entry(self) -> u8
         ensures { result ≡ entry_number self }
     {
+        // A refusal numbers its entry from 1 and has 0 for none, so the missing count is 0 here.
         match self {
             Cut::NoCount => 0,
             Cut::InEntry(entry) => entry,
@@ -45,10 +46,9 @@ impl Section {
         ensures value { Sectioned bytes.now start size result }
         ensures only { (other : Result Section Cut) → Sectioned bytes.now start size other → other ≡ result }
     {
-        if start >= bytes.len() {
+        let Some(&count) = bytes.get(start) else {
             return Err(Cut::NoCount);
-        }
-        let count = bytes[start];
+        };
         let entries = start + 1;
         if size == 0 {
             return Ok(Section {

@@ -25,6 +25,7 @@ pub extern "C" fn jam21_settle_steps(cells: &mut [u8], side: usize) -> u8
     status(settle_steps(cells, side))
 }
 
+// A number, as C takes it.
 fn status(outcome: Result<(), Refusal>) -> u8
     ensures { result ≡ status_of outcome }
 {

@@ -1,7 +1,9 @@
 -- What a number names: one rule and one verdict at most. Which rules belong to which verdicts.
-use Rattle.std.proofs.Common.{◌≡◌, ℕ, zero, suc, ◌<◌, ◌≤◌, ◌⊎◌, [], ◌∷◌, get_or, sym, refl, ap, ◌∙◌, inl, inr, arith}
+use Rattle.std.proofs.Common.{◌≡◌, ℕ, zero, suc, ◌<◌, ◌≤◌, ◌⊎◌, [], ◌∷◌, get_or, Some, None, Ok, Err, Result, sym, refl, ap, ◌∙◌, inl, inr, arith}
 use Rattle.std.proofs.lemmas.Bool.{cases_Bool, both_ways}
+use Rattle.std.specs.Result.{result_ok}
 use Rattle.axioms.specs.Rules as rules
+use Rattle.axioms.specs.declared.rule.UnknownRule.{UnknownRule}
 use Rattle.axioms.specs.declared.rule.Rule.{Rule}
 use Rattle.axioms.specs.declared.rule.Rule.TheVariants.{ProgramOrder, ReadsFrom, Coww, Cowr, Corw, Corr}
 use Rattle.sheets.specs.declared.verdict.Verdict.{Verdict}
@@ -62,6 +64,15 @@ rule_known (suc (suc (suc (suc zero)))) = inl (Cowr, refl)
 rule_known (suc (suc (suc (suc (suc zero))))) = inl (Corw, refl)
 rule_known (suc (suc (suc (suc (suc (suc zero)))))) = inl (Corr, refl)
 rule_known (suc (suc (suc (suc (suc (suc (suc n))))))) = inr (λ x e. omega (arith, rule_bounds x))
+
+-- What `try_from` tells of a number's rule, where only whether there is one goes on.
+pub one_rule : (n : ℕ) (r : Result Rule UnknownRule) (x : Rule) → rules.Numbered n r → Some x ≡ result_ok r → rules.number x ≡ n
+one_rule n (Ok y) x told is = let same : x ≡ y = cc in ap rules.number same ∙ told
+one_rule n (Err e) x told is = cc
+
+pub no_rule : (n : ℕ) (r : Result Rule UnknownRule) → rules.Numbered n r → None ≡ result_ok r → (x : Rule) → rules.number x ≡ n → ⊥
+no_rule n (Ok y) told is = cc
+no_rule n (Err e) told is = told.1
 
 pub belongs_decided : (v : Verdict) (x : Rule) → verdicts.Belongs v x ⊎ (verdicts.Belongs v x → ⊥)
 belongs_decided Clear x = inr (λ b. b)

@@ -3,7 +3,8 @@
 --   Reads ss k s   the five bytes at place k are those of the step s
 use Rattle.std.proofs.Common.{◌≡◌, ℕ, zero, suc, ◌+◌, ◌*◌, ◌/◌, ◌<◌, ◌≤◌, List, [], ◌∷◌, length, get_or, take, drop, Some, None, Option, sym, refl, ap, ◌∙◌, subst, inl, inr, mul-div_cancel, arith}
 use Rattle.std.specs.List.{slice_get, flat_map}
-use Rattle.std.proofs.lemmas.List.{get_or-drop, drop-drop, length-take, length-drop}
+use Rattle.std.specs.Simd.{first_chunks}
+use Rattle.std.proofs.lemmas.List.{get_or-drop, get_or-take, drop-drop, length-take, length-drop}
 use Rattle.std.proofs.lemmas.Option.{slice_get-get_or, slice_get_past}
 use Rattle.std.proofs.lemmas.Bool.{cases_lt}
 use Rattle.axioms.specs.Rules.{number}
@@ -94,3 +95,21 @@ step_told ss k (Some s) ts stands e =
     let h : k < length ts = omega (arith, ap length e, length_steps ts) in
     let same = stands_once ss k s (get_or ts k s) stands (subst (λ xs. Stands xs k (get_or ts k s)) (sym e) (stands_joined ts k s h)) in
     ap Some same ∙ sym (slice_get-get_or ts k s h)
+
+-- A chunk of five bytes, and what it says of the step at its place.
+chunk_at : (n k i : ℕ) (xs : List ℕ) (d : List ℕ) → i < k → get_or (first_chunks n k xs) i d ≡ take n (drop (i * n) xs)
+chunk_at n zero i xs d h = absurd (omega arith)
+chunk_at n (suc k) zero xs d h = let start : 0 ≡ 0 * n = omega arith in ap (λ p. take n (drop p xs)) start
+chunk_at n (suc k) (suc i) xs d h =
+    let on : suc i * n ≡ n + i * n = omega arith in
+    chunk_at n k i (drop n xs) d (omega arith)
+    ∙ ap (take n) (drop-drop (i * n) n xs)
+    ∙ ap (λ p. take n (drop p xs)) (sym on)
+
+pub chunk_found : (ss : List ℕ) (k n : ℕ) (chunk : List ℕ) (chunks : List (List ℕ)) → chunk ≡ get_or chunks k chunk →
+    chunks ≡ first_chunks 5 n ss → k < n → chunk ≡ take 5 (drop (k * 5) ss)
+chunk_found ss k n chunk chunks found front h = found ∙ ap (λ cs. get_or cs k chunk) front ∙ chunk_at 5 n k ss chunk h
+
+pub chunk_byte : (ss : List ℕ) (k j : ℕ) (chunk : List ℕ) → chunk ≡ take 5 (drop (k * 5) ss) → j < 5 → get_or chunk j 0 ≡ byte ss k j
+chunk_byte ss k j chunk same low =
+    ap (λ xs. get_or xs j 0) same ∙ get_or-take 5 (drop (k * 5) ss) j 0 low ∙ get_or-drop (k * 5) ss j 0

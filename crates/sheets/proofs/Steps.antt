@@ -3,18 +3,17 @@ use Rattle.std.proofs.Common.{◌≡◌, ℕ, ◌<◌, List, length, get_or, sym
 use Rattle.std.specs.List.{flat_map, AllByRecursion}
 use Rattle.std.proofs.ByRecursion.{All-get_or, All-from_get_or}
 use Rattle.std.proofs.lemmas.List.{get_or-map, length-map, ext_get_or}
-use Rattle.std.proofs.lemmas.Bool.{cases_lt, cases_eq}
+use Rattle.std.proofs.lemmas.Bool.{cases_eq}
 use Rattle.axioms.specs.declared.rule.Rule.TheVariants.{ProgramOrder}
 use Rattle.cycles.specs.Cycles.{Distinct}
 use Rattle.sheets.specs.declared.step.Step.{Step}
 use Rattle.sheets.specs.declared.verdict.Verdict.{Verdict}
 use Rattle.sheets.specs.Entries.{from, to, next}
-use Rattle.sheets.specs.Faults.{Fault, absent_from, absent_to, broken, repeated}
+use Rattle.sheets.specs.Faults.{Fault, broken, repeated}
 use Rattle.sheets.specs.Steps.{step_bytes}
 use Rattle.sheets.specs.WellLaid.{WellNamed, froms, tos, turned}
-use Rattle.sheets.proofs.Blame.{reader_at_decided, rule_foreign, readers_wrong, only_repeated}
+use Rattle.sheets.proofs.Blame.{well_named_or_faulty, only_repeated}
 use Rattle.sheets.proofs.Chains.{next_below, length_turned, get_or_turned, distinct_from_places, places_from_distinct}
-use Rattle.sheets.proofs.Naming.{belongs_decided}
 use Rattle.sheets.proofs.Places.{Reads, stands_reads, stands_joined}
 
 abbrev none : Step
@@ -49,8 +48,7 @@ module _ (present : ℕ) (v : Verdict) (ts : List Step) where
       let well = All-get_or (WellNamed present v) ts k none h named in
       let on : t.to ≡ from bytes (next (length ts) k) =
       sym (reads k h).leads ∙ leads k h ∙ ap (λ xs. get_or xs k 0) closed ∙ behind k h in
-      let twice = only_repeated present v (length ts) bytes k t (reads k h) well.start well.end well.belongs
-      (well.first_reader, well.second_reader) on fault in
+      let twice = only_repeated present v (length ts) bytes k t (reads k h) well on fault in
       let size : length (froms ts) ≡ length ts = length-map ts (λ t. t.from) in
       let j = twice.0 in
       let earlier : j < k = twice.1 in
@@ -59,31 +57,10 @@ module _ (present : ℕ) (v : Verdict) (ts : List Step) where
 
   module _ (sound : (k : ℕ) → k < length ts → Fault present v (length ts) bytes k → ⊥) where
     named_at : (k : ℕ) → k < length ts → WellNamed present v (get_or ts k none)
-    named_at k h =
-        let t = get_or ts k none in
-        let r = reads k h in
-        record {
-          start = elim (cases_lt t.from present) [
-            | inl l ↦ l
-            | inr l ↦ absurd (sound k h (absent_from (omega (arith, r.starts))))
-          ];
-          end = elim (cases_lt t.to present) [
-            | inl l ↦ l
-            | inr l ↦ absurd (sound k h (absent_to (omega (arith, r.leads))))
-          ];
-          belongs = elim (belongs_decided v t.rule) [
-            | inl b ↦ b
-            | inr foreign ↦ absurd (sound k h (rule_foreign present v (length ts) bytes k t r foreign))
-          ];
-          first_reader = elim (reader_at_decided present _ 0 t.reader) [
-            | inl a ↦ a
-            | inr wrong ↦ absurd (sound k h (readers_wrong present v (length ts) bytes k t r (λ both. wrong both.0)))
-          ];
-          second_reader = elim (reader_at_decided present _ 1 t.second) [
-            | inl a ↦ a
-            | inr wrong ↦ absurd (sound k h (readers_wrong present v (length ts) bytes k t r (λ both. wrong both.1)))
-          ];
-        }
+    named_at k h = elim (well_named_or_faulty present v (length ts) bytes k (get_or ts k none) (reads k h)) [
+      | inl well ↦ well
+      | inr fault ↦ absurd (sound k h fault)
+    ]
 
     pub named_all : AllByRecursion (WellNamed present v) ts
     named_all = All-from_get_or (WellNamed present v) ts none named_at

@@ -2,7 +2,7 @@
 ghost use Rattle.std.specs.Prelude.{◌≡◌, ℕ, ◌+◌, ◌*◌, ◌<◌, ◌≤◌, length, Decides, MatchOption};
 ghost use Rattle.sheets.specs.Entries.{from as «from_byte», next};
 ghost use Rattle.sheets.specs.Faults.{ReaderAt, Fault, FirstFault};
-ghost use Rattle.sheets.specs.Steps.{readers as «readers_of»};
+ghost use Rattle.sheets.specs.WellLaid.{WellNamed};
 
 use crate::layout::step_at;
 use crate::step::{NO_READER, STEP_SIZE, Step};
@@ -13,12 +13,13 @@ pub(crate) fn first_fault(verdict: Verdict, steps: &[u8], count: u8, present: u8
     requires { length steps.now ≡ count * 5 }
     ensures { MatchOption result ((k : ℕ) → k < count → Fault present verdict count steps.now k → ⊥) (λ k. FirstFault present verdict count steps.now k) }
 {
-    for place in 0..count {
-        if is_faulty(verdict, steps, count as usize, place as usize, present) {
-            return Some(place);
-        }
-    }
-    None
+    (0..count).find(
+        |&place|
+            requires within { place < count }
+            requires whole { length steps.now ≡ count * 5 }
+            ensures { Decides result (Fault present verdict count steps.entry.now place) }
+        { is_faulty(verdict, steps, count as usize, place as usize, present) },
+    )
 }
 
 fn is_faulty(verdict: Verdict, steps: &[u8], count: usize, place: usize, present: u8) -> bool
@@ -30,23 +31,10 @@ fn is_faulty(verdict: Verdict, steps: &[u8], count: usize, place: usize, present
         // No rule has the number that stands there.
         return true;
     };
-    if step.from >= present {
-        return true;
-    }
-    if step.to >= present {
-        return true;
-    }
-    if !verdict.admits(step.rule) {
-        return true;
-    }
-    if !has_its_readers(step, present) {
-        return true;
-    }
     let next = place_behind(place, count);
-    if step.to != steps[next * STEP_SIZE] {
-        return true;
-    }
-    starts_where_another_did(steps, place)
+    !is_well_named(step, verdict, present)
+        || step.to != steps[next * STEP_SIZE]
+        || starts_where_another_did(steps, place)
 }
 
 // The place of the step behind the one at this place, of `count`: behind the last is the first.
@@ -57,22 +45,27 @@ fn place_behind(place: usize, count: usize) -> usize
     if place + 1 < count { place + 1 } else { 0 }
 }
 
-// Are the readers that the rule names present, and the others 255?
-fn has_its_readers(step: Step, present: u8) -> bool
-    ensures { Decides result (ReaderAt present («readers_of» step.rule) 0 step.reader × ReaderAt present («readers_of» step.rule) 1 step.second) }
+// Does a step name present events and a rule of the verdict, with the readers that the rule names?
+fn is_well_named(step: Step, verdict: Verdict, present: u8) -> bool
+    ensures { Decides result (WellNamed present verdict step) }
 {
     let named = step.readers();
-    let first = if named > 0 {
-        step.reader < present
+    step.from < present
+        && step.to < present
+        && verdict.admits(step.rule)
+        && is_right_reader(step.reader, 0, named, present)
+        && is_right_reader(step.second, 1, named, present)
+}
+
+// Can this reader stand at a place, from 0, of the readers of a rule that names so many?
+fn is_right_reader(reader: u8, place: u8, named: u8, present: u8) -> bool
+    ensures { Decides result (ReaderAt present named place reader) }
+{
+    if place < named {
+        reader < present
     } else {
-        step.reader == NO_READER
-    };
-    let second = if named > 1 {
-        step.second < present
-    } else {
-        step.second == NO_READER
-    };
-    first & second
+        reader == NO_READER
+    }
 }
 
 // Does an earlier step start where the step at this place does?
@@ -81,10 +74,9 @@ fn starts_where_another_did(steps: &[u8], place: usize) -> bool
     ensures { Decides result ((j : ℕ) × (j < place) × («from_byte» steps.now j ≡ «from_byte» steps.now place)) }
 {
     let from = steps[place * STEP_SIZE];
-    for earlier in 0..place {
-        if steps[earlier * STEP_SIZE] == from {
-            return true;
-        }
-    }
-    false
+    (0..place).any(
+        |earlier|
+            requires { earlier * 5 < length steps.now }
+        { steps[earlier * STEP_SIZE] == from },
+    )
 }

@@ -40,16 +40,14 @@ impl Layout<'_> {
 pub(crate) fn step_at(steps: &[u8], place: usize) -> Option<Step>
     ensures { StepAt steps.now place result }
 {
-    if place >= steps.len() / STEP_SIZE {
-        return None;
-    }
-    let at = place * STEP_SIZE;
-    let rule = Rule::from_number(steps[at + 2])?;
+    let (chunks, _) = steps.as_chunks::<STEP_SIZE>();
+    let [from, to, number, reader, second] = *chunks.get(place)?;
+    let rule = Rule::try_from(number).ok()?;
     Some(Step {
-        from: steps[at],
-        to: steps[at + 1],
+        from,
+        to,
         rule,
-        reader: steps[at + 3],
-        second: steps[at + 4],
+        reader,
+        second,
     })
 }

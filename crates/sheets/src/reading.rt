@@ -58,26 +58,19 @@ fn broken_at(section: u8, entry: u8) -> Refused
     }
 }
 
+#[tactic(auto, using(crate::proofs::Naming::no_verdict))]
 fn read_verdict(bytes: &[u8]) -> Result<Verdict, Refused>
     ensures { MatchResult result (λ v. (0 < length bytes.now) × Says bytes.now v) (BadVerdict bytes.now) }
 {
-    if bytes.len() == 0 {
-        return Err(broken_at(0, 0));
-    }
-    match Verdict::from_number(bytes[0]) {
-        Some(verdict) => Ok(verdict),
-        None => Err(broken_at(0, 0)),
-    }
+    let number = bytes.first().ok_or(broken_at(0, 0))?;
+    Verdict::try_from(*number).map_err(|_| broken_at(0, 0))
 }
 
 // Cuts out the section whose count stands at `start`, or tells the entry of that section where the bytes end.
 fn cut_section(bytes: &[u8], section: u8, start: usize, size: usize) -> Result<Section, Refused>
     ensures { MatchResult result (Whole bytes.now start size) (CutIn bytes.now section start size) }
 {
-    match Section::cut(bytes, start, size) {
-        Ok(whole) => Ok(whole),
-        Err(cut) => Err(broken_at(section, cut.entry())),
-    }
+    Section::cut(bytes, start, size).map_err(|cut| broken_at(section, cut.entry()))
 }
 
 // A clear sheet has no steps, and any other has some.

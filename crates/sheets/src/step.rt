@@ -2,10 +2,11 @@
 ghost use Rattle.std.specs.Prelude.{◌≡◌};
 ghost use Rattle.sheets.specs.Steps.{readers, step_bytes};
 
-use axioms::rule::Rule;
+use axioms::rule::{self, Rule};
 
 /// What stands in a reader's place where the rule names none there.
-pub const NO_READER: u8 = 255;
+// A number and no `None`: a sheet is read back byte by byte, and 255 where the rule names a reader is a fault to be told.
+pub const NO_READER: u8 = rule::NO_READER;
 
 /// How many bytes a step takes in a sheet.
 pub const STEP_SIZE: usize = 5;
@@ -35,7 +36,7 @@ impl Step {
     }
 
     /// The step as it stands in a sheet.
-    pub fn bytes(self) -> [u8; 5]
+    pub fn bytes(self) -> [u8; STEP_SIZE]
         ensures { result ≡ step_bytes self }
     {
         [

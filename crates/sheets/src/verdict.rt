@@ -1,9 +1,10 @@
 // What a sheet says of a graph.
-ghost use Rattle.std.specs.Prelude.{◌≡◌, ℕ, Decides, MatchOption, ◌≢◌};
-ghost use Rattle.sheets.specs.Verdicts.{number as «number_of_lem», Belongs};
-ghost use Rattle.sheets.specs.declared.verdict.Verdict.{Verdict};
+ghost use Rattle.std.specs.Prelude.{◌≡◌, Decides};
+ghost use Rattle.sheets.specs.Verdicts.{number as «number_of_lem», Belongs, Numbered};
 
 use axioms::rule::Rule;
+use std::error::Error;
+use std::fmt;
 
 /// Both axioms hold, the first is broken, or the second is.
 #[derive(Clone, Copy, PartialEq, Eq, Debug)]
@@ -18,23 +19,7 @@ impl Verdict {
     pub fn number(self) -> u8
         ensures { result ≡ «number_of_lem» self }
     {
-        match self {
-            Verdict::Clear => 0,
-            Verdict::SourceCycle => 1,
-            Verdict::CoherenceCycle => 2,
-        }
-    }
-
-    /// The verdict of a number, where it has one.
-    pub fn from_number(number: u8) -> Option<Verdict>
-        ensures { MatchOption result ((x : Verdict) → «number_of_lem» x ≢ number) (λ x. «number_of_lem» x ≡ number) }
-    {
-        match number {
-            0 => Some(Verdict::Clear),
-            1 => Some(Verdict::SourceCycle),
-            2 => Some(Verdict::CoherenceCycle),
-            _ => None,
-        }
+        self as u8
     }
 
     /// Can a step that holds by this rule stand in a sheet of this verdict? The rules of coherence belong to coherence
@@ -49,3 +34,31 @@ impl Verdict {
         }
     }
 }
+
+/// A number that no verdict has.
+#[derive(Clone, Copy, PartialEq, Eq, Debug)]
+pub struct UnknownVerdict(pub u8);
+
+/// The verdict of a number: 0 to 2.
+impl TryFrom<u8> for Verdict {
+    type Error = UnknownVerdict;
+
+    ghost try_from_gives = { Numbered };
+
+    fn try_from(number: u8) -> Result<Self, UnknownVerdict> {
+        match number {
+            0 => Ok(Verdict::Clear),
+            1 => Ok(Verdict::SourceCycle),
+            2 => Ok(Verdict::CoherenceCycle),
+            _ => Err(UnknownVerdict(number)),
+        }
+    }
+}
+
+impl fmt::Display for UnknownVerdict {
+    fn fmt<W: fmt::Write>(&self, f: &mut fmt::Formatter<W>) -> fmt::Result {
+        write!(f, "no verdict has the number {}", self.0)
+    }
+}
+
+impl Error for UnknownVerdict {}

@@ -26,25 +26,18 @@ pub fn write_sheet(
 ) -> Result<usize, Refused>
     ensures { Written (record { verdict = verdict; order = order.now; steps = steps.now }) buffer.old buffer.new result }
 {
-    if buffer.len() < LEAST_BUFFER {
-        return Err(Refused::plain(Refusal::BufferTooShort));
-    }
-    if order.len() > MOST_LISTED {
-        return Err(Refused::plain(Refusal::BufferTooShort));
-    }
-    if steps.len() > MOST_STEPS {
-        return Err(Refused::plain(Refusal::BufferTooShort));
+    if buffer.len() < LEAST_BUFFER || order.len() > MOST_LISTED || steps.len() > MOST_STEPS {
+        return Err(Refusal::BufferTooShort.into());
     }
     buffer[0] = verdict.number();
     buffer[1] = order.len() as u8;
     let end = 2 + order.len();
     buffer[2..end].copy_from_slice(order);
     buffer[end] = steps.len() as u8;
-    let mut at = end + 1;
-    for step in steps {
-        let bytes = step.bytes();
-        buffer[at..at + STEP_SIZE].copy_from_slice(&bytes);
-        at += STEP_SIZE;
+    let front = end + 1;
+    for (place, step) in steps.iter().enumerate() {
+        let at = front + place * STEP_SIZE;
+        buffer[at..at + STEP_SIZE].copy_from_slice(&step.bytes());
     }
-    Ok(at)
+    Ok(front + steps.len() * STEP_SIZE)
 }

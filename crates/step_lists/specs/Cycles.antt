@@ -1,10 +1,14 @@
 -- The cycles through each event of a list of steps.
 --
---   Rounds xs rs   of a table xs of step counts, of side 64: rs has at each event the fewest steps that lead
---                  from it back to itself, and a number above 64 where none do
-use Rattle.std.specs.Prelude.{ℕ, ◌<◌, ◌≤◌, List, slice_index}
+--   Round xs v k   of a table xs of step counts, of side 64: k is the fewest steps, at most 64, that lead from v back to itself
+--   Rounds xs rs   rs has that number at each event, or none where no such steps lead back
+use Rattle.std.specs.Prelude.{ℕ, ◌<◌, ◌≤◌, List, Option, None, MatchOption, slice_index_or}
 use Rattle.measures.specs.Walks.{Walks}
 
-pub record Rounds (xs rs : List ℕ) : Type 0 where
-  pub walked : (v : ℕ) → v < 64 → slice_index rs v ≤ 64 → Walks 64 xs v v (slice_index rs v)
-  pub fewest : (v k : ℕ) → v < 64 → Walks 64 xs v v k → k ≤ 64 → slice_index rs v ≤ k
+pub record Round (xs : List ℕ) (v k : ℕ) : Type 0 where
+  pub walked : Walks 64 xs v v k
+  pub small : k ≤ 64
+  pub fewest : (m : ℕ) → Walks 64 xs v v m → m ≤ 64 → k ≤ m
+
+abbrev pub Rounds : List ℕ → List (Option ℕ) → Type 0
+Rounds xs rs = (v : ℕ) → v < 64 → MatchOption (slice_index_or rs v None) ((m : ℕ) → Walks 64 xs v v m → 64 < m) (Round xs v)

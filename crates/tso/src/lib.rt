@@ -22,17 +22,13 @@ impl Profile for Tso {
     ghost lawful = { λ p. tso_lawful };
 
     fn keeps(&self, events: &[Event], a: u8, b: u8) -> bool {
-        match Summary::of(events, a, b) {
-            Some(pair) => !is_delayed(pair.first, pair.last) | pair.met.fenced,
-            None => false,
-        }
+        Summary::of(events, a, b).is_some_and(|pair| {
+            pair.met.fenced || !is_delayed(pair.first, pair.last)
+        })
     }
 
     fn pushes(&self, events: &[Event], a: u8, b: u8) -> bool {
-        match Summary::of(events, a, b) {
-            Some(pair) => a >= INITIAL && pair.met.fenced,
-            None => false,
-        }
+        a >= INITIAL && Summary::of(events, a, b).is_some_and(|pair| pair.met.fenced)
     }
 }
 
@@ -40,13 +36,11 @@ impl Profile for Tso {
 pub fn is_delayed(first: Code, last: Code) -> bool
     ensures { result ≡ delayed first last }
 {
-    first.is_write() & last.is_read()
+    first.is_write() && last.is_read()
 }
 
 /// The theorem that the profile is what its rules say: a pair is kept, or pushed, exactly if the
 /// relation holds, in every list of events.
-pub fn rules_stand() -> u8
+pub fn rules_stand()
     ensures { Rules-stand }
-{
-    0
-}
+{}

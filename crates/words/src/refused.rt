@@ -15,6 +15,7 @@ impl fmt::Display for RefusedWords {
         } = self.0;
         let number = refusal.number();
         write!(f, "refused {number}")?;
+        // Section 0 is part of what a refusal is: it tells that the refusal is about no place.
         if section != 0 {
             write!(f, " at section {section}, entry {entry}")?;
         }

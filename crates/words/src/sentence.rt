@@ -10,11 +10,14 @@ pub struct Sentence(pub Step);
 
 impl fmt::Display for Sentence {
     fn fmt<W: fmt::Write>(&self, f: &mut fmt::Formatter<W>) -> fmt::Result {
-        let from = self.0.from;
-        let to = self.0.to;
-        let reader = self.0.reader;
-        let second = self.0.second;
-        match self.0.rule {
+        let Step {
+            rule,
+            from,
+            to,
+            reader,
+            second,
+        } = self.0;
+        match rule {
             Rule::ProgramOrder => write!(f, "{from} precedes {to} in program order"),
             Rule::ReadsFrom => write!(f, "{to} reads from {from}"),
             Rule::Coww => write!(

@@ -2,6 +2,7 @@
 use sheets::verdict::Verdict;
 use std::fmt;
 
+// A wrapper, as each type of this crate: `Display` of another crate's type cannot be written here.
 /// What a verdict says of a graph under a push order.
 #[derive(Clone, Copy)]
 pub struct VerdictWords(pub Verdict);

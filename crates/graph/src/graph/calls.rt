@@ -1,13 +1,12 @@
 // The calls that change a graph.
-ghost use Rattle.std.specs.Prelude.{◌≡◌, ◌<◌, true, cond, List, [], length, is_ok, is_err, Some, slice_index_or, slice_set};
-ghost use Rattle.graph.specs.Events.{fresh, absent};
-ghost use Rattle.graph.specs.History.{Step, code_of, resource as «resourced», with_source};
-ghost use Rattle.graph.specs.Holds.{Holds, Does, written};
+ghost use Rattle.std.specs.Prelude.{◌≡◌, cond, List, [], is_ok, slice_set};
+ghost use Rattle.graph.specs.Events.{fresh};
+ghost use Rattle.graph.specs.History.{Step, code_of, resource};
+ghost use Rattle.graph.specs.Holds.{Holds, Does, Leaves, written};
 ghost use Rattle.graph.specs.Memory.{undone};
 
-use super::Graph;
+use super::{Graph, MOST_STEPS};
 use crate::call::Call;
-use crate::checks::{check_addition, check_sourcing};
 use crate::event::{Event, INITIAL};
 use crate::refusal::{Refusal, Refused};
 use crate::undo::Undo;
@@ -22,7 +21,7 @@ impl<'a> Graph<'a> {
         Graph {
             events,
             count: 0,
-            log: [Undo::Added; 256],
+            log: [Undo::Added; MOST_STEPS],
             standing: 0,
         }
     }
@@ -32,20 +31,10 @@ impl<'a> Graph<'a> {
     pub fn add(&mut self, thread: u8, code: u8, location: u8, value: u32) -> Result<u8, Refused>
         ensures told { Does (Call.Add thread code location value) self.old self.new result }
         ensures slice { self.new.events.now ≡ cond (is_ok result) (slice_set self.old.events.now self.old.count (fresh thread (code_of code) location value)) self.old.events.now }
-        ensures same { is_err result ≡ true → self.new ≡ self.old }
-        ensures len { length self.new.events.now ≡ length self.old.events.now }
-        ensures lent { self.new.events.ghost_name ≡ self.old.events.ghost_name }
+        ensures leaves { Leaves self.old self.new result }
     {
         let at = self.count;
-        let kind = check_addition(
-            self.room(),
-            at,
-            self.standing,
-            thread,
-            code,
-            location,
-            value,
-        )?;
+        let kind = self.check_addition(thread, code, location, value)?;
         self.events[at as usize] = Event::fresh(thread, kind, location, value);
         self.log[self.standing as usize] = Undo::Added;
         self.count = at + 1;
@@ -57,23 +46,14 @@ impl<'a> Graph<'a> {
     /// 7, 8, 6.
     pub fn source(&mut self, read: u8, write: u8) -> Result<u16, Refused>
         ensures told { Does (Call.Source read write) self.old self.new result }
-        ensures slice { self.new.events.now ≡ cond (is_ok result) («resourced» self.old.events.now read (Some write)) self.old.events.now }
-        ensures same { is_err result ≡ true → self.new ≡ self.old }
-        ensures len { length self.new.events.now ≡ length self.old.events.now }
-        ensures lent { self.new.events.ghost_name ≡ self.old.events.ghost_name }
+        ensures slice { self.new.events.now ≡ cond (is_ok result) (resource self.old.events.now read (Some write)) self.old.events.now }
+        ensures leaves { Leaves self.old self.new result }
     {
-        let steps = self.standing;
-        let former = check_sourcing(self.events(), steps, read, write)?;
-        let Graph {
-            events,
-            log,
-            standing,
-            ..
-        } = self;
-        resource(events, (read - INITIAL) as usize, Some(write));
-        log[steps as usize] = Undo::Sourced { read, former };
-        *standing = steps + 1;
-        Ok(steps + 1)
+        let former = self.check_sourcing(read, write)?;
+        self.events[(read - INITIAL) as usize].source = Some(write);
+        self.log[self.standing as usize] = Undo::Sourced { read, former };
+        self.standing += 1;
+        Ok(self.standing)
     }
 
     /// Undoes the last standing step and answers how many stand then: a read gets its former source
@@ -82,30 +62,17 @@ impl<'a> Graph<'a> {
     pub fn take_back(&mut self) -> Result<u16, Refused>
         ensures told { Does Call.TakeBack self.old self.new result }
         ensures slice { (hs : List Step) → Holds self.old hs → self.new.events.now ≡ undone hs self.old.events.now }
-        ensures same { is_err result ≡ true → self.new ≡ self.old }
-        ensures len { length self.new.events.now ≡ length self.old.events.now }
-        ensures lent { self.new.events.ghost_name ≡ self.old.events.ghost_name }
+        ensures leaves { Leaves self.old self.new result }
     {
-        if self.standing == 0 {
-            return Err(Refused::plain(Refusal::NoStep));
-        }
-        let last = self.standing - 1;
+        let last = self.standing.checked_sub(1).ok_or(Refusal::NoStep)?;
         let undo = self.log[last as usize];
         match undo {
-            Undo::Added => {
-                self.count -= 1;
-                self.standing = last;
-            }
+            Undo::Added => self.count -= 1,
             Undo::Sourced { read, former } => {
-                let Graph {
-                    events,
-                    standing,
-                    ..
-                } = self;
-                resource(events, (read - INITIAL) as usize, former);
-                *standing = last;
+                self.events[(read - INITIAL) as usize].source = former;
             }
         }
+        self.standing = last;
         Ok(last)
     }
 
@@ -113,9 +80,7 @@ impl<'a> Graph<'a> {
     pub fn perform(&mut self, call: Call) -> Result<u16, Refused>
         ensures told { Does call self.old self.new result }
         ensures slice { (hs : List Step) → Holds self.old hs → self.new.events.now ≡ cond (is_ok result) (written call self.old hs) self.old.events.now }
-        ensures same { is_err result ≡ true → self.new ≡ self.old }
-        ensures len { length self.new.events.now ≡ length self.old.events.now }
-        ensures lent { self.new.events.ghost_name ≡ self.old.events.ghost_name }
+        ensures leaves { Leaves self.old self.new result }
     {
         match call {
             Call::Add {
@@ -123,17 +88,9 @@ impl<'a> Graph<'a> {
                 code,
                 location,
                 value,
-            } => Ok(u16::from(self.add(thread, code, location, value)?)),
+            } => self.add(thread, code, location, value).map(u16::from),
             Call::Source { read, write } => self.source(read, write),
             Call::TakeBack => self.take_back(),
         }
     }
-}
-
-// Gives the event at `at` another source, in place.
-fn resource(events: &mut [Event], at: usize, source: Option<u8>)
-    requires { at < length events.old }
-    ensures { events.new ≡ slice_set events.old at (with_source (slice_index_or events.old at absent) source) }
-{
-    events[at].source = source;
 }

@@ -6,20 +6,16 @@ ghost use Rattle.graph.specs.Lookup.{lookup};
 ghost use Rattle.graph.specs.Memory.{room_of};
 ghost use Rattle.graph.specs.Proper.{Proper};
 
-use super::Graph;
+use super::{Graph, MOST_EVENTS};
 use crate::event::Event;
 use crate::lookup::event_at;
-
-/// The most events that a graph can have besides the initial writes.
-pub const MOST_EVENTS: usize = 56;
 
 impl Graph<'_> {
     /// How many events can be added in all: 56, or the length of the slice if that is less.
     pub fn room(&self) -> u8
         ensures { result ≡ room_of self.now.events.now }
     {
-        let len = self.events.len();
-        if len < MOST_EVENTS { len as u8 } else { 56 }
+        self.events.len().min(MOST_EVENTS) as u8
     }
 
     /// How many steps stand: additions and sourcings that were not taken back.
@@ -37,7 +33,7 @@ impl Graph<'_> {
         ensures proper { Proper result.now }
         ensures few { length result.now ≤ 56 }
     {
-        &self.events[0..self.count as usize]
+        &self.events[..self.count as usize]
     }
 
     /// The event of a number, initial writes too, where it is present.

@@ -3,7 +3,7 @@ ghost use Rattle.std.specs.Prelude.{◌≡◌, ℕ, ◌<◌, ◌≤◌, ◌⊎�
 ghost use Rattle.cycles.specs.Tables.{Same};
 ghost use Rattle.orders.specs.Orders.{Precedes, Pair, Free};
 
-use super::{MOST_ITEMS, Precedence};
+use super::{MOST_ITEMS, PLACES, Precedence};
 use crate::items::is_among;
 
 impl Precedence {
@@ -16,7 +16,7 @@ impl Precedence {
         }
         Some(Precedence {
             count,
-            cells: [false; 64],
+            cells: [[false; PLACES]; PLACES],
         })
     }
 
@@ -32,16 +32,10 @@ impl Precedence {
     pub fn precedes(&self, first: u8, second: u8) -> bool
         ensures { Decides result (Precedes self.now first second) }
     {
-        if first >= self.count {
-            return false;
-        }
-        if second >= self.count {
-            return false;
-        }
-        if first == second {
-            return false;
-        }
-        self.cells[first as usize * 8 + second as usize]
+        first < self.count
+            && second < self.count
+            && first != second
+            && self.cells[usize::from(first)][usize::from(second)]
     }
 
     /// From now on `first` has to come before `second`. Nothing changes where they are one item, or no items.
@@ -50,7 +44,9 @@ impl Precedence {
         ensures added { Same (Precedes self.new) (λ x y. Precedes self.old x y ⊎ Pair self.old.count first second x y) }
     {
         if first < self.count && second < self.count {
-            self.cells[first as usize * 8 + second as usize] = true;
+            // The row has a name, since a proof knows how long it is only then.
+            let later = &mut self.cells[usize::from(first)];
+            later[usize::from(second)] = true;
         }
     }
 
@@ -58,16 +54,7 @@ impl Precedence {
     pub(crate) fn is_free(&self, placed: &[u8], item: u8) -> bool
         ensures { Decides result (Free self.now placed.now item) }
     {
-        if is_among(placed, item) {
-            return false;
-        }
-        for other in 0..self.count {
-            if self.precedes(other, item) {
-                if !is_among(placed, other) {
-                    return false;
-                }
-            }
-        }
-        true
+        !is_among(placed, item)
+            && (0..self.count).all(|other| !self.precedes(other, item) || is_among(placed, other))
     }
 }

@@ -1,48 +1,58 @@
-use Rattle.std.proofs.Common.{◌≡◌, ◌+◌, ◌-◌, ◌<◌, ◌≤◌, length, get_or, sym, refl, subst, arith}
-use Rattle.coherence.proofs.VisibilityPushes.{PushedFrom, pushed_none, pushed_skip, pushed_more, pushed_all, row_within}
+use Rattle.std.proofs.Common.{◌≡◌, length, get_or, refl, sym, ap, ◌∙◌, subst, add-mul, one-mul, arith, rules}
+use Rattle.coherence.specs.Visibility.{Gained, PushedLater}
+use Rattle.coherence.proofs.VisibilityPushes.{PushedFrom, back_of, row_read, pushed_none, pushed_skip, pushed_joined, pushed_all}
 use Rattle.coherence.proofs.visibility.add_push_steps.Goals as goal
 
-pub slice_bounds-join_row-end : goal.slice_bounds-join_row-end
-slice_bounds-join_row-end c = sym c.loop-i.invariant.0
+pub loop-event-init : goal.loop-event-init
+loop-event-init c =
+    let L = c.args.list.now in
+    let rest : c.into_iter-event-iterator.result.iter.rest.now ≡ L =
+    ap (λ r. r.iter.rest.now) c.into_iter-event-iterator.ensures.into_iter_gives ∙ ap (λ i. i.rest.now) c.rev-event-items.ensures.source ∙ c.iter.ensures.rest in
+    let long = ap length rest in
+    record {
+      side = refl;
+      front = record { few = omega arith; same = λ k h. ap (λ l. get_or l k 0) rest };
+      steps = pushed_none c.side-side.result c.args.pushed.now L _ c.args.table.now.cells c.side-side.ensures.small (omega arith);
+    }
 
-pub join_row-requires : goal.join_row-requires
-join_row-requires c =
-    record { into = omega (arith, row_within _ c.args.side c.if-event-side.true, c.requires.shape.1); row = omega arith }
+pub loop-event-preserved : goal.loop-event-preserved
+loop-event-preserved c =
+    let n = c.side-side.result in
+    let L = c.args.list.now in
+    let h = c.loop-event.invariant in
+    let back = back_of L c.loop-event.event-iterator.iter.rest.now c.next.new.self.iter.rest.now c.in-Some.event.now c.in-Some.ensures.steps h.front in
+    record {
+      side = h.side;
+      front = back.front;
+      steps = pushed_skip n c.args.pushed.now L _ back.within c.args.table.now.cells c.loop-event.table.cells c.loop-event.later
+          (subst (λ k. PushedFrom n c.args.pushed.now L k c.args.table.now.cells c.loop-event.table.cells c.loop-event.later) back.long h.steps)
+          (omega (arith, back.there));
+    }
 
-pub join_row-requires-then-event-side : goal.join_row-requires-then-event-side
-join_row-requires-then-event-side c =
-    record { into = omega arith; row = omega (arith, row_within _ c.args.side c.if-event-side.true, c.requires.square.1) }
+pub loop-event-preserved-then-row-side : goal.loop-event-preserved-then-row-side
+loop-event-preserved-then-row-side c =
+    let n = c.side-side.result in
+    let L = c.args.list.now in
+    let h = c.loop-event.invariant in
+    let back = back_of L c.loop-event.event-iterator.iter.rest.now c.next.new.self.iter.rest.now c.in-Some.event.now c.in-Some.ensures.steps h.front in
+    let e = c.in-Some.event.now in
+    let long : length c.loop-event.later ≡ 64 = search rules in
+    record {
+      side = c.join_row.ensures.side ∙ h.side;
+      front = back.front;
+      steps = pushed_joined n c.args.pushed.now L _ back.within c.args.table.now.cells c.loop-event.later c.join.new.cells
+          c.loop-event.table c.join_row.new.self (h.side ∙ sym c.side-side.ensures.value)
+          (subst (λ k. PushedFrom n c.args.pushed.now L k c.args.table.now.cells c.loop-event.table.cells c.loop-event.later) back.long h.steps)
+          e back.there c.if-row-side.true c.join_row.ensures _ (λ b q. row_read n c.args.pushed.now e _ b (omega (arith, add-mul e 1 n, one-mul n)) q) (omega (arith, c.side-side.ensures.small)) c.join.ensures;
+    }
 
-pub loop-i-init : goal.loop-i-init
-loop-i-init c =
-    let all : length c.args.list.now ≤ length c.args.list.now = omega arith in
-    (refl, pushed_none c.args.side c.args.pushed.now c.args.list.now (length c.args.list.now) c.args.cells.now c.requires.square.0 all)
+pub returns-clause-side : goal.returns-clause-side
+returns-clause-side c = c.loop-event.invariant.side
 
-pub loop-i-preserved : goal.loop-i-preserved
-loop-i-preserved c =
-    let k = c.loop-i.i - 1 in
-    let next : c.loop-i.i ≡ k + 1 = omega arith in
-    let within : k < length c.args.list.now = omega arith in
-    let so_far = subst (λ i. PushedFrom c.args.side c.args.pushed.now c.args.list.now i c.args.cells.now c.loop-i.cells c.loop-i.later) next c.loop-i.invariant.1 in
-    (c.loop-i.invariant.0, pushed_skip c.args.side c.args.pushed.now c.args.list.now k within c.args.cells.now c.loop-i.cells c.loop-i.later so_far c.if-event-side.false)
-
-pub loop-i-preserved-then-event-side : goal.loop-i-preserved-then-event-side
-loop-i-preserved-then-event-side c =
-    let k = c.loop-i.i - 1 in
-    let next : c.loop-i.i ≡ k + 1 = omega arith in
-    let within : k < length c.args.list.now = omega arith in
-    let so_far = subst (λ i. PushedFrom c.args.side c.args.pushed.now c.args.list.now i c.args.cells.now c.loop-i.cells c.loop-i.later) next c.loop-i.invariant.1 in (
-      omega (arith, c.join_row-then-event-side.auto.into),
-      pushed_more c.args.side c.args.pushed.now c.args.list.now k within c.args.cells.now c.loop-i.cells c.loop-i.later so_far
-          (get_or c.args.list.now k 0)
-          refl
-          c.if-event-side.true
-          c.join_row.new.into
-          c.join_row-then-event-side.new.into
-          c.join_row.ensures
-          c.join_row-then-event-side.ensures,
-    )
-
-pub returns : goal.returns
-returns c =
-    pushed_all c.args.side c.args.pushed.now c.args.list.now c.loop-i.i c.args.cells.now c.loop-i.cells c.loop-i.later (omega arith) c.loop-i.invariant.1
+pub returns-clause-steps : goal.returns-clause-steps
+returns-clause-steps c =
+    let pushed = c.args.pushed.now in
+    let L = c.args.list.now in
+    let cells = c.args.table.now.cells in
+    subst (λ n. Gained n (PushedLater n pushed L) cells c.loop-event.table.cells) c.side-side.ensures.value
+    (pushed_all c.side-side.result pushed L _ cells c.loop-event.table.cells c.loop-event.later c.in-None.ensures.steps.0 c.loop-event.invariant.steps)

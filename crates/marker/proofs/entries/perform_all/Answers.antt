@@ -2,18 +2,18 @@ use Rattle.std.proofs.Common.{refl, ◌∙◌}
 use Rattle.marker.proofs.Performing.{none_yet, one_more, all_made}
 use Rattle.marker.proofs.entries.perform_all.Goals as goal
 
-pub loop-i-init : goal.loop-i-init
-loop-i-init c = (refl, λ hs holds. none_yet _ _ hs holds)
+pub loop-entry-init : goal.loop-entry-init
+loop-entry-init c = (refl, λ hs holds. none_yet _ _ hs holds)
 
-pub loop-i-preserved : goal.loop-i-preserved
-loop-i-preserved c = (
-  c.perform.ensures.lent ∙ c.loop-i.invariant.0,
-  λ hs holds. one_more _ _ _ _ _ hs (c.loop-i.invariant.1 hs holds) c.loop-i-test.true c.perform.new.self c.perform.result _ refl
-      c.perform.ensures.told c.perform.ensures.slice c.perform.ensures.len,
+pub loop-entry-preserved : goal.loop-entry-preserved
+loop-entry-preserved c = (
+  c.perform-entry.ensures.leaves.lent ∙ c.loop-entry.invariant.0,
+  λ hs holds. one_more _ _ _ _ _ hs (c.loop-entry.invariant.1 hs holds) c.loop-entry-test.true c.perform-entry.new.self c.perform-entry.result _ refl
+      c.perform-entry.ensures.told c.perform-entry.ensures.slice c.perform-entry.ensures.leaves.len,
 )
 
 pub returns : goal.returns
 returns c = record {
-  told = λ hs holds. all_made _ _ _ _ _ hs (c.loop-i.invariant.1 hs holds) c.loop-i-test.false;
-  lent = c.loop-i.invariant.0;
+  told = λ hs holds. all_made _ _ _ _ _ hs (c.loop-entry.invariant.1 hs holds) c.loop-entry-test.false;
+  lent = c.loop-entry.invariant.0;
 }

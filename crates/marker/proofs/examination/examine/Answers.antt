@@ -8,7 +8,7 @@ use Rattle.marker.proofs.examination.examine.Goals.{in-Ok, in-Err}
 
 pub slice_bounds-mark-end : goal.slice_bounds-mark-end
 slice_bounds-mark-end g c =
-    let within : c.in-Ok.length ≤ length c.judge-answers.new.buffer = wrote_within _ _ _ _ _ _ _ c.in-Ok.is c.judge-answers.ensures in
+    let within : c.in-Ok.length ≤ length c.judge-judged.new.buffer = wrote_within _ _ _ _ _ _ _ c.in-Ok.is c.judge-judged.ensures in
     search rules
 
 pub returns : goal.returns
@@ -25,13 +25,16 @@ returns g c =
         search = finds_permitted m es;
         single_order = finds_sequential m es proper;
         handed_back = record {
-          judged = c.judge-answers.ensures;
-          own_marked = elim c.match-answers.branch [
-            | in-Ok w ↦ own_read m es c.judge-answers.new.buffer c.judge-answers.result _ w.in-Ok.is _ w.mark.ensures.outcome _ w.answers-is
-            | in-Err w ↦ own_none m es c.judge-answers.new.buffer c.judge-answers.result _ w.in-Err.is _ w.answers-is
+          judged = elim c.match-judged.branch [
+            | in-Ok w ↦ rw w.judged-is (rw w.in-Ok.is at c.judge-judged.ensures)
+            | in-Err w ↦ rw w.judged-is c.judge-judged.ensures
           ];
-          brought_marked = c.mark-answers.ensures.outcome;
-          searched = c.search-answers.ensures.answered;
+          own_marked = elim c.match-judged.branch [
+            | in-Ok w ↦ own_read m es c.judge-judged.new.buffer _ _ w.judged-is _ w.mark.ensures.outcome _ w.own-is
+            | in-Err w ↦ own_none m es c.judge-judged.new.buffer _ _ (w.judged-is ∙ w.in-Err.is) _ w.own-is
+          ];
+          brought_marked = c.mark-brought.ensures.outcome;
+          searched = c.search-searched.ensures.answered;
         };
       };
       lent = c.perform_all.ensures.lent ∙ c.new-graph.ensures.lent;

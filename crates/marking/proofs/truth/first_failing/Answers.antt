@@ -1,38 +1,20 @@
-use Rattle.std.proofs.Common.{length, ap, arith, below_more}
-use Rattle.std.proofs.lemmas.Bool.Decides.{not_from_Decides}
-use Rattle.sheets.proofs.Bytes.{length_steps}
-use Rattle.marking.proofs.Failing.{no_more, all_hold, fails_first}
+use Rattle.std.proofs.Common.{◌≡◌, length, subst, rules}
+use borrow.Author.Rules.{of_calls}
+use Rattle.std.proofs.lemmas.Iterator.{first_from_Range}
+use Rattle.coherence.specs.Sights.{Throughout}
+use Rattle.marking.specs.Marking.{StepHolds}
+use Rattle.marking.proofs.Failing.{first_told}
 use Rattle.marking.proofs.truth.first_failing.Goals as goal
 
-pub loop-place-preserved : goal.loop-place-preserved
-loop-place-preserved c = λ m L told.
-    below_more _ _ (c.loop-place.invariant m L told)
-    (record {
-      step = c.in_ok-step.step;
-      stands = c.in_ok-step.ensures.value;
-      holds = (c.holds.ensures m L told).0 c.if-not-holds.false;
-    })
-
-pub returns-in_err-step : goal.returns-in_err-step
-returns-in_err-step c =
-    rw c.from_residual.ensures
-    (record {
-      low = tt;
-      told = λ m L told ts e.
-          all_hold m _ L _ ts e c.loop-place.place (no_more _ ts c.loop-place.place e c.in_err-step.ensures.value) (c.loop-place.invariant m L told);
-    })
-
-pub returns-then-not-holds : goal.returns-then-not-holds
-returns-then-not-holds c = record {
-  low = c.loop-place-test.true;
-  told = λ m L told ts e.
-      fails_first m _ L _ ts e c.loop-place.place c.in_ok-step.step c.in_ok-step.ensures.value
-      (not_from_Decides _ (c.holds.ensures m L told) c.if-not-holds.true) (c.loop-place.invariant m L told);
-}
-
-pub returns : goal.returns
-returns c = record {
-  low = tt;
-  told = λ m L told ts e.
-      all_hold m _ L _ ts e c.loop-place.place (omega (arith, c.requires, ap length e, length_steps ts)) (c.loop-place.invariant m L told);
-}
+pub returns-clause-told : goal.returns-clause-told
+returns-clause-told c m L told ts e =
+    let sight = c.args.sight.now in
+    let ss = c.args.layout.now.steps.now in
+    let holds = StepHolds m sight.events.now L ss in
+    let count : c.count-count.result ≡ length ts = c.count-count.ensures.told ts e in
+    first_told m sight.events.now L ss ts e c.find.result
+    (rw count at (first_from_Range _ _ _ c.find.result (λ k. holds k → ⊥) holds c.find.ensures.ran
+    (λ x q k. let h : Throughout sight (λ es n M. StepHolds n es M ss k.shown.now → ⊥) = search (rules, of_calls) in
+    subst (λ y. holds y → ⊥) k.shows (h m L told))
+    (λ x q k. let h : Throughout sight (λ es n M. StepHolds n es M ss k.shown.now) = search (rules, of_calls) in
+    (search (rules, of_calls), subst holds k.shows (h m L told)))))

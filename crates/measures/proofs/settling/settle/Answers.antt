@@ -13,7 +13,7 @@ loop-via-preserved g c =
     (entry m.means m.none n c.round.new.cells)
     c.loop-via-test.true
     c.loop-via.invariant
-    (λ a b. c.round.ensures.done a b (omega arith))
+    c.round.ensures.done
 
 pub returns : goal.returns
 returns g c =

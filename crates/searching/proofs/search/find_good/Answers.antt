@@ -15,8 +15,8 @@ returns c m asked =
     let b = c.args.precedence.now in
     let kept = c.kept.result.now in
     let pushed = c.pushed.result.now in
-    let fits : (xs : List ℕ) → length xs ≡ c.args.pairs.now.side * c.args.pairs.now.side → Fits es xs = λ xs size.
-    (omega (arith, asked.side, c.args.pairs.now.small), subst (λ n. length xs ≡ n * n) asked.side size) in
+    let fits : (xs : List ℕ) → length xs ≡ c.args.pairs.now.kept.side * c.args.pairs.now.kept.side → Fits es xs = λ xs size.
+    (omega (arith, asked.side, c.args.pairs.now.kept.small), subst (λ n. length xs ≡ n * n) asked.side size) in
     let is-kept = subst (λ n. Drawn (Kept m es) n kept) asked.side (c.kept.ensures.told m es asked) in
     let is-pushed = subst (λ n. Drawn (Pushed m es) n pushed) asked.side (c.pushed.ensures.told m es asked) in
     found_like b (Fails es kept pushed E) (λ q. CoherenceCycle m es (picked E q))

@@ -1,4 +1,4 @@
-use Rattle.std.proofs.Common.{◌≡◌, ℕ, ◌-◌, ◌++◌, length, take, replicate, ap, ◌∙◌, arith}
+use Rattle.std.proofs.Common.{◌≡◌, ℕ, ◌-◌, ◌++◌, length, get_or, take, replicate, ap, ◌∙◌, arith}
 use Rattle.std.proofs.lemmas.List.{take_all}
 use Rattle.searching.specs.Listing.{picked}
 use Rattle.searching.proofs.Picking.{pick_more}
@@ -6,7 +6,9 @@ use Rattle.searching.proofs.sieve.pick.Goals as goal
 
 pub loop-place-preserved : goal.loop-place-preserved
 loop-place-preserved c =
-    pick_more c.args.pushing.now c.args.placed.now c.loop-place.place c.loop-place-test.true c.requires c.loop-place.list c.loop-place.invariant
+    let E = c.args.pushing.now in
+    let event = c.in_ok-list.ensures.lookup.3.1 0 ∙ ap (λ x. get_or E x 0) c.from.ensures in
+    rw event (pick_more E c.args.placed.now c.loop-place.place c.loop-place-test.true c.requires c.loop-place.list c.loop-place.invariant)
 
 pub returns : goal.returns
 returns c =

@@ -1,22 +1,30 @@
-use Rattle.std.proofs.Common.{◌*◌, get_or, sym, refl, ap, add-zero, arith}
-use Rattle.sheets.proofs.Places.{stands_whole, stands_reads, reads_stands}
+use Rattle.std.proofs.Common.{◌/◌, ◌<◌, length, sym, ◌∙◌, arith}
+use Rattle.sheets.proofs.Naming.{one_rule, no_rule}
+use Rattle.sheets.proofs.Places.{stands_reads, reads_stands, chunk_found, chunk_byte}
 use Rattle.sheets.proofs.layout.step_at.Goals as goal
-
-pub returns-then-place-steps : goal.returns-then-place-steps
-returns-then-place-steps c = λ s h. omega (arith, stands_whole c.args.steps.now c.args.place s h)
 
 pub returns-in_err-rule : goal.returns-in_err-rule
 returns-in_err-rule c =
-    rw c.from_residual.ensures (λ s h. c.in_err-rule.ensures s.rule (sym (stands_reads c.args.steps.now c.args.place s h).by))
+    let ss = c.args.steps.now in
+    let k = c.args.place in
+    let found = c.in_ok-from.ensures.lookup in
+    let whole : k < length ss / 5 = omega (arith, found.3.0, c.as_chunks.ensures.front_len) in
+    let same = chunk_found ss k (length ss / 5) c.in_ok-from.field-0.now _ found.1 c.as_chunks.ensures.front whole in
+    rw c.from_residual-in_err-rule.ensures
+    (λ s h. no_rule _ c.try_from.result c.try_from.ensures c.in_err-rule.ensures.value s.rule (sym (stands_reads ss k s h).by ∙ sym (chunk_byte ss k 2 _ same (omega arith))))
 
 pub returns : goal.returns
 returns c =
-    reads_stands c.args.steps.now c.args.place _
-    (record {
+    let ss = c.args.steps.now in
+    let k = c.args.place in
+    let found = c.in_ok-from.ensures.lookup in
+    let whole : k < length ss / 5 = omega (arith, found.3.0, c.as_chunks.ensures.front_len) in
+    let same = chunk_found ss k (length ss / 5) c.in_ok-from.field-0.now _ found.1 c.as_chunks.ensures.front whole in
+    reads_stands ss k _ (record {
       whole = omega arith;
-      starts = ap (λ p. get_or c.args.steps.now p 0) (add-zero (c.args.place * 5));
-      leads = refl;
-      by = sym c.in_ok-rule.ensures;
-      reads = refl;
-      reads_second = refl;
+      starts = sym (chunk_byte ss k 0 _ same (omega arith));
+      leads = sym (chunk_byte ss k 1 _ same (omega arith));
+      by = sym (one_rule _ c.try_from.result c.in_ok-rule.rule c.try_from.ensures c.in_ok-rule.ensures.value ∙ chunk_byte ss k 2 _ same (omega arith));
+      reads = sym (chunk_byte ss k 3 _ same (omega arith));
+      reads_second = sym (chunk_byte ss k 4 _ same (omega arith));
     })

@@ -1,5 +1,5 @@
 -- The flags below an event are right.
-use Rattle.std.proofs.Common.{◌≡◌, ℕ, ◌<◌, false, List, length, get_or, Decides}
+use Rattle.std.proofs.Common.{ℕ, ◌<◌, false, List, get_or, Decides}
 use Rattle.graph.specs.declared.event.Event.{Event}
 use Rattle.profiles.specs.Meaning.{Meaning}
 use Rattle.axioms.specs.Asked.{Asked}
@@ -8,5 +8,4 @@ use Rattle.axioms.proofs.pairs.Pairs.flags.Given as goal
 
 abbrev pub invariant-loop-event : goal.invariant-loop-event
 invariant-loop-event l =
-    (length l.flags ≡ 64)
-    × ((m : Meaning) (es : List Event) → Asked m es l.self → (a : ℕ) → a < l.event → Decides (get_or l.flags a false) (Pushes m es a))
+    (m : Meaning) (es : List Event) → Asked m es l.self → (a : ℕ) → a < l.event → Decides (get_or l.flag-items a false) (Pushes m es a)

@@ -7,11 +7,6 @@ use Rattle.axioms.specs.Reached.{Reached}
 use Rattle.axioms.specs.Relations.{SourceStep}
 use Rattle.axioms.proofs.source_reach.SourceReach.is_lawful.Given as goal
 
-abbrev pub invariant-loop-earlier : goal.invariant-loop-earlier
-invariant-loop-earlier l =
-    (es : List Event) → Reached es l.self → Proper es →
-    (i : ℕ) → i < l.earlier → Leads (SourceStep es) (get_or l.list l.later 0) (get_or l.list i 0) → ⊥
-
 abbrev pub invariant-loop-later : goal.invariant-loop-later
 invariant-loop-later l =
     (es : List Event) → Reached es l.self → Proper es →

@@ -1,4 +1,4 @@
-use Rattle.std.proofs.Common.{arith}
+use Rattle.std.proofs.Common.{◌≡◌, ◌+◌, length, arith, rules}
 use Rattle.std.proofs.lemmas.Bool.{both_ways}
 use Rattle.coherence.proofs.FirstRule.{pair_more, pair_found, pair_none, second_none}
 use Rattle.coherence.proofs.sight.Sight.first_pair.Goals as goal
@@ -25,5 +25,6 @@ returns-in-Some c m L told =
 
 pub returns : goal.returns
 returns c m L told =
-    let small = told.fits.0 in
-    pair_none m c.args.self.now.events.now L c.args.p c.args.q c.loop-reader.reader (c.loop-reader.invariant m L told) (omega (arith, c.side-reader-end.ensures.is small))
+    let es = c.args.self.now.events.now in
+    let side : c.in_ok-side.field-0 ≡ length es + 8 = search rules in
+    pair_none m es L c.args.p c.args.q c.loop-reader.reader (c.loop-reader.invariant m L told) (omega arith)

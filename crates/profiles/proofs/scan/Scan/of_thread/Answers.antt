@@ -1,26 +1,18 @@
-use Rattle.std.proofs.Common.{get_or, subst}
-use Rattle.std.proofs.lemmas.List.{take_all}
-use Rattle.std.proofs.lemmas.Bool.{eq-eqb, ne_eqb}
-use Rattle.graph.specs.Events.{absent}
-use Rattle.profiles.specs.Scans.{Met}
-use Rattle.profiles.specs.Threads.{codes_of}
-use Rattle.profiles.proofs.Scanning.{met_more, codes_yes, codes_no}
+use Rattle.std.proofs.Common.{◌≡◌, [], nat_eq, rules, tests, sym, subst}
+use Rattle.std.specs.List.{fold}
+use Rattle.std.proofs.lemmas.Iterator.{YieldsList-from_slice}
+use Rattle.std.proofs.lemmas.Iterator.Consumers.{YieldsList-from_filter, fold_from_yields_List}
+use Rattle.profiles.specs.Scans.{stepped, Met}
+use Rattle.profiles.specs.Threads.{in_thread, codes_of}
+use Rattle.profiles.proofs.Scanning.{met_none, met_all}
 use Rattle.profiles.proofs.scan.Scan.of_thread.Goals as goal
-use Rattle.profiles.proofs.scan.Scan.of_thread.Goals.{then-event-thread, else-event-thread}
-
-pub loop-event-preserved : goal.loop-event-preserved
-loop-event-preserved c =
-    let t = c.args.thread in
-    let xs = c.args.events.now in
-    let i = c.loop-event.event-index in
-    let within = c.loop-event-test.true in
-    elim c.if-event-thread.branch [
-      | then-event-thread w ↦
-          let step = w.step-met.ensures in
-          let more = met_more c.loop-event.met w.step-met.result _ (get_or xs i absent).code c.loop-event.invariant step.marked step.fenced step.stage in
-          rw w.met-is (subst (Met w.step-met.result) (codes_yes t xs i within (eq-eqb _ t w.if-event-thread.true)) more)
-      | else-event-thread w ↦ rw w.met-is (subst (Met c.loop-event.met) (codes_no t xs i within (ne_eqb _ t w.if-event-thread.false)) c.loop-event.invariant)
-    ]
 
 pub returns : goal.returns
-returns c = subst (λ xs. Met c.loop-event.met (codes_of c.args.thread xs)) (take_all c.loop-event.event-index c.args.events.now c.loop-event-test.false) c.loop-event.invariant
+returns c =
+    let t = c.args.thread in
+    let es = c.args.events.now in
+    let scanned : c.fold.result ≡ fold (λ s e. stepped s e.code) c.default.result (in_thread t es) =
+    fold_from_yields_List _ (λ s e. stepped s e.code) c.default.result c.fold.result c.fold.ensures.ran
+    (YieldsList-from_filter _ (λ e. nat_eq e.thread t) (YieldsList-from_slice es cc) c.filter.ensures.closure (λ x b q k. search (rules, tests)))
+    (λ a x b q k. search (rules, tests)) in
+    subst (λ s. Met s (codes_of t es)) (sym scanned) (met_all c.default.result [] (in_thread t es) (met_none c.default.result c.default.ensures.0 c.default.ensures.1.0 c.default.ensures.1.1))

@@ -1,36 +1,36 @@
-use Rattle.std.proofs.Common.{◌≡◌, ◌+◌, ◌*◌, ◌≤◌, length, Decides, ap, ◌∙◌, mul-le-mul, arith, rules}
-use Rattle.measures.specs.Reach.{yes}
-use Rattle.searching.specs.Sieves.{OpenPush}
-use Rattle.searching.proofs.Merging.{merged_more, merged_all, so_far_told, marked_yes, marked_no}
+use Rattle.std.proofs.Common.{◌≡◌, ◌+◌, ◌*◌, length, sym, ap, ◌∙◌, subst, arith}
+use Rattle.axioms.specs.Tables.{Drawn}
+use Rattle.searching.specs.Sieves.{Merging}
+use Rattle.searching.proofs.Merging.{merged_none, merged_more, merged_all, so_far_told}
 use Rattle.searching.proofs.sieve.CycleSieve.has_cycle_so_far.Goals as goal
-use Rattle.searching.proofs.sieve.CycleSieve.has_cycle_so_far.Goals.{then-has_open_push, else-has_open_push}
 
-pub slice_bounds-table-end : goal.slice_bounds-table-end
-slice_bounds-table-end c =
-    let n = length c.args.self.now.events.now + 8 in
-    let h : n * n ≤ 4096 = mul-le-mul c.if-side-gt-LARGEST.false c.if-side-gt-LARGEST.false in
-    search rules
+pub loop-column-init : goal.loop-column-init
+loop-column-init c =
+    let s = c.args.self.now in
+    merged_none (length s.events.now + 8) s.pushed.now s.pushing.now c.args.placed.now c.in-Ok.pushed c.in-Ok.ensures.side c.in-Ok.ensures.cells
+
+pub has_open_push-requires : goal.has_open_push-requires
+has_open_push-requires c = record {
+  few = c.requires;
+  fits = c.in-Ok.ensures.fits;
+  within = omega (arith, c.side-column-end.ensures.value, c.in-Ok.ensures.side);
+}
 
 pub loop-column-preserved : goal.loop-column-preserved
 loop-column-preserved c =
-    let n = length c.args.self.now.events.now + 8 in
     let s = c.args.self.now in
-    let Open = OpenPush n s.pushed.now s.pushing.now c.args.placed.now c.loop-column.column in
-    let long : length c.loop-column.pushed ≡ n * n = c.loop-column.auto.pushed ∙ ap length c.copy_from_slice.ensures.after ∙ c.if-self-side.false in
-    let row : 1 * n ≤ n * n = mul-le-mul (omega arith) (omega arith) in
-    let told : Decides (yes c.if-has_open_push.pushed) Open = elim c.if-has_open_push.branch [
-      | then-has_open_push w ↦ marked_yes c.if-has_open_push.pushed w.pushed-is (c.has_open_push.ensures.0 w.if-has_open_push.true)
-      | else-has_open_push w ↦ marked_no c.if-has_open_push.pushed w.pushed-is c.has_open_push.result w.if-has_open_push.false c.has_open_push.ensures
-    ] in
-    merged_more n s.pushed.now s.pushing.now c.args.placed.now c.loop-column.pushed c.loop-column.column c.if-has_open_push.pushed
-    c.loop-column-test.true (omega arith) told c.loop-column.invariant
+    merged_more (length s.events.now + 8) s.pushed.now s.pushing.now c.args.placed.now c.loop-column.pushed c.mark.new.self c.loop-column.column
+    c.has_open_push.result (omega (arith, c.side-column-end.ensures.value, c.in-Ok.ensures.side)) c.mark.ensures c.has_open_push.ensures
+    c.loop-column.invariant
 
 pub returns : goal.returns
 returns c =
     let s = c.args.self.now in
     let n = length s.events.now + 8 in
-    so_far_told s.events.now s.kept.now s.pushed.now s.pushing.now c.args.placed.now c.args.list.now c.loop-column.pushed c.has_cycle.result
-    (c.if-side-gt-LARGEST.false, c.if-self-side.false)
-    (c.if-side-gt-LARGEST.false, c.loop-column.auto.pushed ∙ ap length c.copy_from_slice.ensures.after ∙ c.if-self-side.false)
-    (merged_all n s.pushed.now s.pushing.now c.args.placed.now c.loop-column.pushed c.loop-column.column (omega arith) c.loop-column.invariant)
+    let size : length c.cells.result.now ≡ n * n = c.cells.ensures.size ∙ ap (λ k. k * k) c.loop-column.invariant.side in
+    so_far_told s.events.now s.kept.now s.pushed.now s.pushing.now c.args.placed.now c.args.list.now c.cells.result.now c.has_cycle.result
+    c.in-Ok.ensures.fits (c.in-Ok.ensures.fits.0, size)
+    (subst (Drawn (Merging n s.pushed.now s.pushing.now c.args.placed.now) n) (sym c.cells.ensures.value)
+    (merged_all n s.pushed.now s.pushing.now c.args.placed.now c.loop-column.pushed c.loop-column.column
+    (omega (arith, c.side-column-end.ensures.value, c.in-Ok.ensures.side)) c.loop-column.invariant))
     c.has_cycle.ensures

@@ -1,26 +1,24 @@
-use Rattle.std.proofs.Common.{◌+◌, ◌*◌, ◌<◌, length, get_or, arith, below_more}
-use lib.Arith.{digits_lt}
-use Rattle.std.proofs.lemmas.Bool.{both_ways}
+use Rattle.std.proofs.Common.{ℕ, ◌+◌, length, get_or, true, false, Decides, refl, arith, rules, tests}
+use borrow.Author.Rules.{of_calls}
+use Rattle.std.proofs.lemmas.Bool.Decides.{not_from_Decides, Decides-like}
+use Rattle.std.proofs.lemmas.Iterator.{YieldsList-from_range, cases_from_any, serves_from_Range}
 use Rattle.measures.specs.Walks.{Yes}
-use Rattle.axioms.proofs.Entries.{none_no}
 use Rattle.orders.specs.Orders.{Among}
+use Rattle.axioms.proofs.Any.{decided_below}
 use Rattle.searching.proofs.sieve.CycleSieve.has_open_push.Goals as goal
-use Rattle.searching.proofs.sieve.CycleSieve.has_open_push.Goals.{then-row-side+then-not-is_among+else-self-row-ne0, then-row-side+else-not-is_among, else-row-side}
 
-pub bounds-self-row : goal.bounds-self-row
-bounds-self-row c =
-    let n = length c.args.self.now.events.now + 8 in
-    let place : get_or c.args.self.now.pushing.now c.loop-item.item 0 * n + c.args.column < n * n = digits_lt c.if-row-side.true c.requires.within in
-    omega (arith, c.requires.fits.1)
+pub any-requires : goal.any-requires
+any-requires c = record { can = tt; finite = tt; callable = serves_from_Range (λ x q k. search (rules, tests)) (λ x low high. search rules) }
 
-pub loop-item-preserved : goal.loop-item-preserved
-loop-item-preserved c =
-    let n = length c.args.self.now.events.now + 8 in
-    let xs = c.args.self.now.pushed.now in
-    let E = c.args.self.now.pushing.now in
-    below_more (λ x. (Among c.args.placed.now x → ⊥) → Yes n xs (get_or E x 0) c.args.column → ⊥) c.loop-item.item c.loop-item.invariant
-    (λ is_open y. elim c.if-row-side.branch [
-      | then-row-side+then-not-is_among+else-self-row-ne0 w ↦ both_ways _ (none_no _ w.if-self-row-ne0.false) y.is_yes
-      | then-row-side+else-not-is_among w ↦ is_open (w.is_among.ensures.0 w.if-not-is_among.false)
-      | else-row-side w ↦ omega (arith, w.if-row-side.false, y.row)
-    ])
+pub returns : goal.returns
+returns c =
+    let s = c.args.self.now in
+    let count = length s.pushing.now in
+    let Open = λ (x : ℕ). (Among c.args.placed.now x → ⊥) × Yes (length s.events.now + 8) s.pushed.now (get_or s.pushing.now x 0) c.args.column in
+    Decides-like c.any.result
+    (λ t. record { item = t.0; within = t.1; open_item = t.2.0; pushes = t.2.1 })
+    (λ o. (o.item, o.within, (o.open_item, o.pushes)))
+    (decided_below count c.any.result Open
+    (cases_from_any _ _ c.any.result Open (λ x. Open x → ⊥) c.any.ensures.ran (YieldsList-from_range 0 count count (search rules) (omega arith))
+    (λ x q k. let h : Decides true (Open x) = search (rules, of_calls) in h.0 refl)
+    (λ x q k. let h : Decides false (Open x) = search (rules, of_calls) in (search (rules, of_calls), not_from_Decides _ h refl))))

@@ -1,13 +1,12 @@
-use Rattle.std.proofs.Common.{◌≤◌, sym, subst, arith}
-use Rattle.measures.specs.Walks.{Walks}
+use Rattle.std.proofs.Common.{◌≡◌, ◌<◌, ◌≤◌, None, MatchOption, arith, rules}
+use Rattle.measures.specs.Walks.{at}
+use Rattle.step_lists.proofs.Filled.{filled, round_at}
 use Rattle.step_lists.proofs.step_list.StepList.shortest_cycles.Goals as goal
 
 pub returns : goal.returns
-returns c =
-    let found = c.in-Ok.ensures.1 in
-    record {
-      walked = λ v h few.
-          let is = c.loop-v.invariant.1 v (omega arith) in
-          subst (Walks 64 c.args.self.now.cells v v) (sym is) (found.walked v v h h (subst (λ n. n ≤ 64) is few));
-      fewest = λ v k h w few. subst (λ n. n ≤ k) (sym (c.loop-v.invariant.1 v (omega arith))) (found.fewest v v k w few);
-    }
+returns c = λ v h.
+    let ys = c.settle_steps.new.cells in
+    round_at c.args.self.now.cells ys c.in-Ok.ensures.1 v h _
+    (filled _ c.from_fn.result None (λ k r. MatchOption r (64 < at 64 ys k k) (λ m. (m ≡ at 64 ys k k) × (m ≤ 64)))
+    (λ x y q k. search rules)
+    0 64 c.from_fn.ensures.items.each v v h (omega arith))

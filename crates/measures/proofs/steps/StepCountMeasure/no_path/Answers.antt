@@ -1,6 +1,0 @@
-use Rattle.std.proofs.Common.{arith}
-use Rattle.measures.specs.Steps.{same_steps}
-use Rattle.measures.proofs.steps.StepCountMeasure.no_path.Goals as goal
-
-pub returns : goal.returns
-returns c = same_steps _ _ (omega arith)
