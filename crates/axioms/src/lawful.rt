@@ -14,6 +14,7 @@ impl SourceReach {
     pub fn is_lawful(&self, list: &[u8]) -> bool
         ensures { ReachedAmong self.now (λ es. Proper es → Once list.now → Decides result (Lawful es list.now)) }
     {
+        // A `for` and no `all`, whose closure would have to require that each place lies in the list.
         for (later, event) in list.iter().enumerate() {
             if self.leads_to_any(*event, &list[..later]) {
                 return false;

@@ -21,6 +21,7 @@ impl Pairs {
         ensures few { result ≤ 64 }
         ensures told { AskedOf self.now (λ m es. Front (Pushing m es) list.old list.new result) }
     {
+        // No heap: the list goes into lent memory, and the count says how much of that is the list's.
         let flags = self.flags();
         collect(&flags, list)
     }

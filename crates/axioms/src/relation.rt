@@ -23,7 +23,7 @@ pub fn draw<R: Relation>(relation: &R, cells: &mut [u8], side: usize) -> Result<
     ensures { Drawing (R.known relation.now) (R.related relation.now) side cells.old cells.new result }
 {
     check_square(cells, side)?;
-    // Rows by `chunks_exact_mut` need a side above 0, which nobody promises here.
+    // Not `chunks_exact_mut`, since a proof knows no value of a slice that it has lent.
     for a in 0..side {
         for b in 0..side {
             cells[a * side + b] = u8::from(relation.holds(a as u8, b as u8));

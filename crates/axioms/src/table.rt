@@ -24,7 +24,8 @@ pub fn join(cells: &mut [u8], gains: &[u8])
     ensures { CellsJoined gains.now cells.old cells.new }
 {
     let both = cells.len().min(gains.len());
-    // Two runs of cells and no test inside the loop: the compiler makes vector code of it.
+    // Two runs of cells and no test inside the loop: the compiler makes vector code of it. Not `zip`, since a proof knows no
+    // value that `iter_mut` has lent to it.
     for (at, gain) in gains[..both].iter().enumerate() {
         cells[at] |= *gain;
     }
@@ -35,6 +36,7 @@ pub fn join(cells: &mut [u8], gains: &[u8])
 #[derive(Drop)]
 pub struct EventTable {
     side: usize,
+    // Bytes and no `bool`s, which settling takes; fixed memory, as there is no heap.
     /// Row by row; the first `side` × `side` cells count.
     cells: [u8; CELLS],
     ghost small: { side ≤ 64 },
@@ -97,6 +99,7 @@ impl EventTable {
     pub fn has_loop(&self) -> bool
         ensures { Decides result ((a : ℕ) × Says self.now a a) }
     {
+        // `cycles::exists::has_cycle` settles its table too; this one may be settled already.
         (0..self.side as u8).any(|event| self.says(event, event))
     }
 

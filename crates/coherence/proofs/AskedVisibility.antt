@@ -1,5 +1,5 @@
 -- A table of visibility that is drawn from what a profile was asked tells the profile's visibility.
-use Rattle.std.proofs.Common.{ℕ, ◌+◌, List, length, sym, ◌∙◌, ◌≡◌, subst}
+use Rattle.std.proofs.Common.{ℕ, List, sym, ◌∙◌, ◌≡◌, subst}
 use Rattle.graph.specs.declared.event.Event.{Event}
 use Rattle.profiles.specs.Meaning.{Meaning}
 use Rattle.axioms.specs.declared.pairs.Pairs.{Pairs}

@@ -38,7 +38,8 @@ impl Sight<'_, '_> {
         self.shows_by_value(p, q, reader) || self.shows_by_order(p, q, reader)
     }
 
-    // Does a read show the step by what it reads? It is then the reader of cowr, or the second of corr.
+    // Does a read show the step by what it reads? It is then the reader of cowr, or the second of corr. One pass over the readers
+    // serves both rules, and asks no more for rivals, which `holds` does by each rule.
     fn shows_by_value(&self, p: u8, q: u8, reader: u8) -> bool
         ensures { Throughout self.now (λ es m L. Decides result (ByValue m es L p q reader)) }
     {

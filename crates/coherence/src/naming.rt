@@ -10,6 +10,7 @@ use axioms::rule::{NO_READER, Rule};
 use axioms::table::side_of;
 use graph::order::reads_from;
 
+// A number and no `Option`, as a sheet has it; the name by which callers of this crate know it.
 /// What stands for a reader that a rule does not name.
 pub const UNUSED: u8 = NO_READER;
 
@@ -17,6 +18,7 @@ pub const UNUSED: u8 = NO_READER;
 #[derive(Clone, Copy, PartialEq, Eq, Debug)]
 pub struct NamedStep {
     pub rule: Rule,
+    // Numbers and no `Option`: a sheet has a byte for each reader, and the rule tells whether it names one.
     /// The reader; under corr the earlier of the two.
     pub reader: u8,
     pub second: u8,
@@ -54,7 +56,7 @@ impl Sight<'_, '_> {
         self.first_pair(p, q)
     }
 
-    // The lowest reader by which the step holds.
+    // The lowest reader by which the step holds. Each of the three searches asks for the side itself, which is one line.
     fn first_reader(&self, rule: Rule, p: u8, q: u8) -> Option<u8>
         ensures { Throughout self.now (λ es m L. Lowest (length es + 8) (λ x. Holds m es L rule p q x 255) result) }
     {
@@ -67,7 +69,7 @@ impl Sight<'_, '_> {
         ensures { Throughout self.now (λ es m L. LowestPair (Holds m es L Corr p q) result) }
     {
         let side = side_of(self.events).ok()? as u8;
-        // `find` would answer the reader alone, and its second reader would be sought twice.
+        // One search inside another: `find` would answer the reader alone, and its second reader would be sought twice.
         for reader in 0..side {
             if reads_from(self.events, p, reader) {
                 if let Some(second) = self.second_reader(p, q, reader) {

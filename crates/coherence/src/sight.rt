@@ -79,6 +79,7 @@ impl Sight<'_, '_> {
     pub(crate) fn are_rivals(&self, p: u8, q: u8) -> bool
         ensures { Decides result (Rivals self.now.events.now p q) }
     {
+        // A `match`: behind `is_some_and` a proof did not learn what `written` says.
         match self.written(p) {
             Some(location) => p != q && self.written(q) == Some(location),
             None => false,
@@ -98,6 +99,7 @@ impl Sight<'_, '_> {
     pub(crate) fn reads_location(&self, reader: u8, p: u8) -> bool
         ensures { Decides result (ReadsLocation self.now.events.now reader p) }
     {
+        // A `match` of both: a chain of `and_then` and `is_some_and` would nest one closure in another.
         match (event_at(self.events, reader), event_at(self.events, p)) {
             (Some(read), Some(event)) => read.code.is_read() && read.location == event.location,
             _ => false,
@@ -123,6 +125,7 @@ impl Sight<'_, '_> {
     fn has_way(&self, a: u8, b: u8) -> bool
         ensures { Fits self.now.events.now self.now.leads.now → Decides result (Yes (length self.now.events.now + 8) self.now.leads.now a b) }
     {
+        // What `EventTable::says` is of a table that fits; the lent one may not.
         let Ok(side) = side_of(self.events) else {
             return false;
         };

@@ -13,5 +13,6 @@ pub fn has_cycle(cells: &mut [u8], side: usize) -> Result<bool, Refusal>
     ensures { CycleTest side cells.old cells.new result }
 {
     settle_reach(cells, side)?;
+    // The diagonal by its vertices, as the definition has it: `step_by` over the cells is no plainer.
     Ok((0..side).any(|v| cells[v * side + v] != 0))
 }

@@ -5,9 +5,24 @@ use Rattle.std.specs.Option.{option_eq}
 use Rattle.std.proofs.lemmas.Bool.Decides.{Decides-like, Decides-and, Decides-eqb}
 use Rattle.std.proofs.lemmas.Slice.Eq.{slice_eq-Decides}
 use Rattle.graph.specs.declared.code.Code.{Code}
+use Rattle.graph.specs.declared.code.ReadMode.{ReadMode}
+use Rattle.graph.specs.declared.code.WriteMode.{WriteMode}
+use Rattle.graph.specs.declared.code.FenceMode.{FenceMode}
 use Rattle.graph.specs.declared.event.Event.{Event}
 use Rattle.graph.specs.contracts.code.CodePartialEq.TheImpl as code_tests
+use Rattle.graph.specs.contracts.code.ReadModePartialEq.TheImpl as read_modes
+use Rattle.graph.specs.contracts.code.WriteModePartialEq.TheImpl as write_modes
+use Rattle.graph.specs.contracts.code.FenceModePartialEq.TheImpl as fence_modes
 use Rattle.graph.specs.contracts.event.EventPartialEq.TheImpl.{ghosts}
+
+read_mode_decides : (x y : ReadMode) → Decides (read_modes.ghosts.eq x y) (x ≡ y)
+read_mode_decides x y = search rules
+
+write_mode_decides : (x y : WriteMode) → Decides (write_modes.ghosts.eq x y) (x ≡ y)
+write_mode_decides x y = search rules
+
+fence_mode_decides : (x y : FenceMode) → Decides (fence_modes.ghosts.eq x y) (x ≡ y)
+fence_mode_decides x y = search rules
 
 code_decides : (x y : Code) → Decides (code_tests.ghosts.eq x y) (x ≡ y)
 code_decides x y = search rules

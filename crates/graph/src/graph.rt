@@ -1,5 +1,4 @@
-// An execution graph in lent memory. The struct stands alone, since the definitions that its calls
-// cite name it.
+// An execution graph in lent memory. Its calls, checks and views have files of their own.
 ghost use Rattle.std.specs.Prelude.{◌≤◌};
 ghost use Rattle.graph.specs.Memory.{Told, room_of};
 

@@ -35,6 +35,7 @@ pub enum Refusal {
 #[derive(Clone, Copy, Debug, PartialEq, Eq)]
 pub struct Refused {
     pub refusal: Refusal,
+    // Numbers and no `Option`: a section may be at fault with no entry, and outside a refusal is three numbers.
     /// The section, from 1.
     pub section: u8,
     /// The entry of the section, from 1. A section counts its entries in one byte.
@@ -51,7 +52,7 @@ impl Refusal {
 }
 
 impl Refused {
-    // `From` below serves `?`; this names a refusal that is made outright, as the crates above do.
+    // `From` below serves `?`; this is the name by which a contract or a test speaks of such a refusal.
     /// A refusal that is about no place in a record or a sheet.
     pub fn plain(refusal: Refusal) -> Refused
         ensures { result ≡ «plain_of_lem» refusal }

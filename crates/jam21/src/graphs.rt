@@ -56,6 +56,7 @@ fn print_pairs<P: fmt::Display + Drop, F: Fn(u8, u8) -> Option<P>>(
     requires { F.IsAlwaysCallable pair_of }
 {
     let end = events.len().min(MOST_EVENTS) as u8 + INITIAL;
+    // Numbers of events, and no places of a slice.
     for a in INITIAL..end {
         for pair in (INITIAL..end).filter_map(|b| pair_of(a, b)) {
             println!(rt; "{pair}")?;

@@ -4,7 +4,7 @@
 mod graphs;
 mod lists;
 
-use anyhow::{anyhow, bail};
+use anyhow::anyhow;
 use reports::options::{BadOption, HELP, Input, Options};
 use std::env;
 

@@ -39,7 +39,7 @@ pub(crate) fn find<P: Profile>(
     ensures { MatchResult result (Found (P.meaning profile.now) (added_events graph.now) list.now) (RefusesList (P.meaning profile.now) (added_events graph.now) list.now) }
 {
     let events = graph.events();
-    // A graph has at most 56 events, so no table is refused.
+    // A graph has at most 56 events, so no table is refused. Each call asks for what it needs in a line.
     let Ok(pairs) = Pairs::ask(profile, events) else {
         unreachable()
     };

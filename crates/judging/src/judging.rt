@@ -15,6 +15,7 @@ use sheets::writing::{LEAST_BUFFER, write_sheet};
 ///
 /// Refusals, in this order: 16 where `buffer` is shorter than 384 bytes; 11 where `list` is not the pushing events, each once; 12 where there
 /// is no source cycle and `list` is not lawful. Then `buffer` is as it was.
+// No heap: the sheet goes into lent memory, and its length is the answer.
 pub fn judge<P: Profile>(
     graph: &Graph<'_>,
     profile: &P,
@@ -23,6 +24,7 @@ pub fn judge<P: Profile>(
 ) -> Result<usize, Refused>
     ensures { Judges (P.meaning profile.now) (added_events graph.now) list.now buffer.old buffer.new result }
 {
+    // Each call that writes tests its buffer itself, at its own place among its refusals.
     if buffer.len() < LEAST_BUFFER {
         return Err(Refusal::BufferTooShort.into());
     }

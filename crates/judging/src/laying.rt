@@ -44,6 +44,7 @@ impl Namer for SourceNamer<'_> {
         } else {
             Rule::ReadsFrom
         };
+        // Written out: no rule of coherence is named here, for which the crate below has a name.
         NamedStep {
             rule,
             reader: NO_READER,
@@ -78,6 +79,7 @@ pub(crate) fn lay<N: Namer>(namer: &N, cycle: &[u8]) -> Steps
     ensures { Laid (N.named namer.now) cycle.now result }
 {
     let mut laid = [BLANK; MOST_STEPS];
+    // Not `zip`, since a proof knows no value that `iter_mut` has lent to it.
     for (place, &from) in cycle.iter().enumerate() {
         let to = next_of(cycle, place);
         let NamedStep {

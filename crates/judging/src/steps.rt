@@ -1,4 +1,4 @@
-// The steps that show a verdict. The struct stands alone, since the definitions that its calls cite name it.
+// The steps that show a verdict. The calls have a file of their own.
 ghost use Rattle.std.specs.Prelude.{◌≤◌};
 
 use axioms::rule::{NO_READER, Rule};
@@ -10,7 +10,7 @@ mod calls;
 /// The steps of a cycle: at most as many as a graph has events.
 #[derive(Clone, Copy)]
 pub(crate) struct Steps {
-    /// The first `count` of these are the steps.
+    /// The first `count` of these are the steps: fixed memory, as there is no heap.
     pub laid: [Step; MOST_STEPS],
     pub count: usize,
     ghost few: { count ≤ 64 },

@@ -1,7 +1,7 @@
 -- Calls one after the other, one more at a time.
 use Rattle.std.proofs.Common.{◌≡◌, ℕ, suc, ◌+◌, ◌<◌, ◌≤◌, min, cond, List, [], ◌∷◌, ◌++◌, map, length, get_or, take, set, is_ok, Ok, Result, sym, refl, ap, ◌∙◌, subst, arith}
 use lib.ListN.{length-map, get_or-map}
-use Rattle.std.proofs.lemmas.List.{take_more, take_more_set, map-set, set-get_or, length-take-le, take_all}
+use Rattle.std.proofs.lemmas.List.{take_more, take_more_set, map-set, set-get_or, length-take-le}
 use Rattle.graph.specs.declared.call.Call.{Call}
 use Rattle.graph.specs.declared.call.Call.TheVariants.{Add, Source, TakeBack}
 use Rattle.graph.specs.declared.event.Event.{Event}
@@ -13,7 +13,7 @@ use Rattle.graph.specs.Holds.{Holds, Meets, written}
 use Rattle.graph.specs.Memory.{room_of}
 use Rattle.marker.specs.declared.entries.Entry.{Entry}
 use Rattle.marker.specs.Calls.{after, answers, memory, stored, most, rewritten}
-use Rattle.marker.specs.Entries.{call, answer, Performed}
+use Rattle.marker.specs.Entries.{call, answer}
 use Rattle.marker.proofs.Reaching.{stored_keeps}
 
 abbrev no_entry : Entry
@@ -52,16 +52,6 @@ pub record Sofar (g g' : Graph) (xs ys : List Entry) (i : ℕ) (hs : List Step) 
   pub slice : g'.events.now ≡ memory (room_of g.events.now) hs g.events.now (take i (map call xs))
   pub unreached : (k : ℕ) → most (room_of g.events.now) hs (take i (map call xs)) ≤ k → get_or g'.events.now k absent ≡ get_or g.events.now k absent
   pub room : room_of g'.events.now ≡ room_of g.events.now
-
-pub none_yet : (g : Graph) (xs : List Entry) (hs : List Step) → Holds g hs → Sofar g g xs xs 0 hs
-none_yet g xs hs holds = record {
-  calls = refl;
-  answered = refl;
-  stands = holds;
-  slice = refl;
-  unreached = λ k le. refl;
-  room = refl;
-}
 
 -- A graph has as many added events as its steps tell.
 added_long : (g : Graph) (ks : List Step) → Holds g ks → g.count ≡ length (graph ks)
@@ -111,19 +101,3 @@ module _ (g g' : Graph) (xs ys : List Entry) (i : ℕ) (hs : List Step) (s : Sof
             ap (λ l. get_or l k absent) (sym same) ∙ stored_keeps rm g'.log ks fs c k s.stands.logged parts.1.0 parts.1.1 ∙ s.unreached k parts.0;
         room = ap (λ n. min 56 n) len ∙ s.room;
       }
-
--- All calls are made.
-pub all_made : (g g' : Graph) (xs ys : List Entry) (i : ℕ) (hs : List Step) → Sofar g g' xs ys i hs → length xs ≤ i → Performed g.events.now hs g' xs ys
-all_made g g' xs ys i hs s end =
-    let rm = room_of g.events.now in
-    let all : take i (map call xs) ≡ map call xs = take_all i (map call xs) (omega (arith, length-map xs call)) in
-    let long : length ys ≡ length xs = sym (length-map ys call) ∙ ap length s.calls ∙ length-map xs call in
-    let stands = subst (λ l. Holds g' (after rm hs l)) all s.stands in
-    record {
-      calls = s.calls;
-      answered = sym (take_all i (map answer ys) (omega (arith, length-map ys answer, long))) ∙ s.answered ∙ ap (answers rm hs) all;
-      stands = stands;
-      front = sym stands.events;
-      slice = s.slice ∙ ap (memory rm hs g.events.now) all;
-      unreached = λ k le. s.unreached k (subst (λ l. most rm hs l ≤ k) (sym all) le);
-    }

@@ -1,5 +1,5 @@
 -- The first step that fails, among bytes ss that are those of the steps ts.
-use Rattle.std.proofs.Common.{◌≡◌, ℕ, ◌<◌, ◌≤◌, ◌⊎◌, List, [], ◌∷◌, length, Option, None, Some, MatchOption, Ok, Err, Result, subst, inl, inr, arith}
+use Rattle.std.proofs.Common.{◌≡◌, ℕ, ◌<◌, ◌≤◌, List, [], ◌∷◌, length, Option, None, Some, MatchOption, Ok, Err, Result, subst, inl, inr, arith}
 use Rattle.std.specs.List.{flat_map}
 use Rattle.graph.specs.declared.event.Event.{Event}
 use Rattle.graph.specs.declared.refusal.Refused.{Refused}
@@ -8,8 +8,7 @@ use Rattle.axioms.specs.Relations.{Holds, CoherenceCycle}
 use Rattle.axioms.specs.declared.rule.Rule.TheVariants.{ProgramOrder}
 use Rattle.sheets.specs.declared.step.Step.{Step}
 use Rattle.sheets.specs.declared.verdict.Verdict.{Verdict}
-use Rattle.sheets.specs.declared.verdict.Verdict.TheVariants as verdicts
-use Rattle.sheets.specs.declared.verdict.Verdict.TheVariants.{Clear, SourceCycle}
+use Rattle.sheets.specs.declared.verdict.Verdict.TheVariants.{Clear}
 use Rattle.sheets.specs.Steps.{step_bytes}
 use Rattle.marking.specs.Marking.{StepHolds, FirstFailing, AllHold, FailingStep, HasCoherenceCycle, Given}
 use Rattle.marking.specs.Passing.{Decided}
@@ -40,7 +39,3 @@ module _ (m : Meaning) (es : List Event) (L ss : List ℕ) (n : ℕ) (hold : All
   then_clear (Ok x) clear = (hold, λ _. clear)
   then_clear (Err e) (inl q) = inr (λ d f. f.first.fails (hold f.place f.first.within), inl (q.0, ((is, q.1.0), q.1.1)))
   then_clear (Err e) (inr q) = let z : ◌≡◌ {A = ℕ} 0 1 = cc q.1 in absurd (omega arith)
-
-pub not_clear : (v : Verdict) → (v ≡ SourceCycle) ⊎ (v ≡ verdicts.CoherenceCycle) → v ≡ Clear → ⊥
-not_clear v (inl s) e = let z : ◌≡◌ {A = ℕ} 0 1 = cc in omega arith
-not_clear v (inr s) e = let z : ◌≡◌ {A = ℕ} 0 1 = cc in omega arith

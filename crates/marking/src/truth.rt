@@ -24,7 +24,8 @@ use profiles::profile::Profile;
 use sheets::layout::Layout;
 use sheets::verdict::Verdict;
 
-// Checks the parts of a sheet against a graph.
+// Checks the parts of a sheet against a graph. A count of one byte tells at most 255 steps, which are 1275 bytes; a layout
+// is also made by hand, so its type does not say that.
 pub(crate) fn check_truth<P: Profile>(
     graph: &Graph<'_>,
     profile: &P,
@@ -34,7 +35,7 @@ pub(crate) fn check_truth<P: Profile>(
     ensures { (bs : List ℕ) → (t : Told (length (added_events graph.now) + 8) bs layout.now) → Decided (TrueOf (P.meaning profile.now) (added_events graph.now) t.sheet) (truth_checks (P.meaning profile.now) (added_events graph.now) bs (order_part bs)) result }
 {
     let events = graph.events();
-    // A graph has at most 56 events, so no table is refused.
+    // A graph has at most 56 events, so no table is refused. Each call asks for what it needs in a line.
     let Ok(pairs) = Pairs::ask(profile, events) else {
         unreachable()
     };
@@ -100,6 +101,7 @@ fn first_failing(sight: &Sight<'_, '_>, layout: &Layout<'_>) -> Option<u8>
     ensures told { Throughout sight.now (λ es m L. (ts : List Step) → layout.now.steps.now ≡ flat_map step_bytes ts → MatchOption result (AllHold m es L (flat_map step_bytes ts) (length ts)) (FirstFailing m es L (flat_map step_bytes ts) (length ts))) }
 {
     let count = layout.count() as u8;
+    // By place, which is the answer.
     (0..count).find(
         |&place|
             ensures { Throughout sight.entry.now (λ es m L. MatchBool result (StepHolds m es L layout.entry.now.steps.now place → ⊥) (StepHolds m es L layout.entry.now.steps.now place)) }

@@ -11,6 +11,7 @@ use crate::settling::{Refusal, settle};
 pub struct YesNo;
 
 impl Measure for YesNo {
+    // A byte and no `bool`: C hands over bytes, of which each but 0 is yes.
     type Value = u8;
 
     const NONE: u8 = 0;

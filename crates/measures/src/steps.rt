@@ -11,6 +11,7 @@ use crate::settling::{Refusal, settle};
 pub struct StepCount;
 
 impl Measure for StepCount {
+    // A byte and no `Option<u8>`: C hands over bytes, and a sum above 64 means none without a test.
     type Value = u8;
 
     const NONE: u8 = 255;

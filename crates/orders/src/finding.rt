@@ -14,6 +14,7 @@ use crate::sieve::Sieve;
 pub fn find_order<S: Sieve>(precedence: &Precedence, sieve: &S) -> Option<[u8; PLACES]>
     ensures { Found precedence.now (S.fails sieve.now) result }
 {
+    // Eight numbers whatever the count, since there is no heap; the precedence tells how many of them are the order's.
     extend(precedence, sieve, [0; PLACES], 0)
 }
 

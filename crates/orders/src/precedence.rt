@@ -1,4 +1,4 @@
-// Which items have to come before which. The struct stands alone, since the definitions that its calls cite name it.
+// Which items have to come before which. The calls have a file of their own.
 ghost use Rattle.std.specs.Prelude.{◌≤◌};
 
 mod calls;
@@ -6,7 +6,7 @@ mod calls;
 /// The most items that an order can have.
 pub const MOST_ITEMS: u8 = 8;
 
-// As many, as a length.
+// As many, as a length: an item is a byte, and a place of an array is not.
 pub(crate) const PLACES: usize = 8;
 
 /// Which of at most eight items, numbered from 0, have to come before which others.

@@ -75,6 +75,7 @@ pub fn draw(heap: Global, events: &[Event]) -> Result<String, AllocError> {
         },
     )?;
     text.push('\n')?;
+    // A row is how many events of its thread come before, and no place of the slice; the first without a cell is behind the last.
     for row in 0..events.len() {
         let line = draw_line(
             heap,
@@ -86,6 +87,7 @@ pub fn draw(heap: Global, events: &[Event]) -> Result<String, AllocError> {
                 Ok(Some(format!(in heap; "{}", Label { events, number })?))
             },
         )?;
+        // An empty line is none: it is printed nowhere.
         if line.is_empty() {
             break;
         }
@@ -107,6 +109,7 @@ fn draw_line<F: Fn(u8) -> Result<Option<String>, AllocError>>(
     let threads = (0..THREADS).filter(|thread| number_in_thread(events, *thread, 0).is_some());
     for (column, thread) in threads.enumerate() {
         if let Some(cell) = cell_of(thread)? {
+            // Blanks up to the column, which take no value of the range.
             for _ in line.len()..column.saturating_mul(WIDTH) {
                 line.push(' ')?;
             }

@@ -16,15 +16,16 @@ use crate::sieve::CycleSieve;
 use axioms::pairs::Pairs;
 use axioms::source_reach::SourceReach;
 use graph::event::Event;
-use graph::graph::Graph;
+use graph::graph::{Graph, MOST_EVENTS};
 use graph::refusal::{Refusal, Refused};
+use measures::settling::LARGEST;
 use orders::finding::find_order;
 use orders::precedence::Precedence;
 use orders::sieve::Anything;
 use profiles::profile::Profile;
 
 /// The least bytes that a buffer for a push order has: as many as a graph can have events.
-pub const LEAST_BUFFER: usize = 56;
+pub const LEAST_BUFFER: usize = MOST_EVENTS;
 
 /// Finds the first good push order of a graph, and writes its events to the front of `buffer`: the pushing events in an order that
 /// is lawful, and under which steps of coherence make no cycle. Of two orders the one with the lower event comes first, at the
@@ -40,11 +41,12 @@ pub fn search<P: Profile>(
     ensures answered { Searches (P.meaning profile.now) (added_events graph.now) buffer.old buffer.new result }
     ensures only { (new : List ℕ) (other : Result Answer Refused) → Searches (P.meaning profile.now) (added_events graph.now) buffer.old new other → (other ≡ result) × (new ≡ buffer.new) }
 {
+    // Each call that writes tests its buffer itself, at its own place among its refusals.
     if buffer.len() < LEAST_BUFFER {
         return Err(Refusal::BufferTooShort.into());
     }
     let events = graph.events();
-    // A graph has at most 56 events, so no table is refused.
+    // A graph has at most 56 events, so no table is refused. Each call asks for what it needs in a line.
     let Ok(pairs) = Pairs::ask(profile, events) else {
         unreachable()
     };
@@ -52,7 +54,7 @@ pub fn search<P: Profile>(
         unreachable()
     };
     // A fixed list, since there is no heap; it is a slice as soon as its length is known.
-    let mut list = [0; 64];
+    let mut list = [0; LARGEST];
     let count = pairs.pushing(&mut list);
     let pushing = &list[0..count];
     let precedence = precedence_of(&reach, pushing).ok_or(Refusal::TooManyPush)?;
@@ -96,6 +98,7 @@ fn write_order(pushing: &[u8], order: &[u8; 8], buffer: &mut [u8])
     requires items { (i : ℕ) → i < length pushing.now → slice_index order.now i < length pushing.now }
     ensures { buffer.new ≡ picked pushing.now (take (length pushing.now) order.now) ++ drop (length pushing.now) buffer.old }
 {
+    // Not `zip`, since a proof knows no value that `iter_mut` has lent to it.
     for (place, item) in order[0..pushing.len()].iter().enumerate() {
         buffer[place] = pushing[usize::from(*item)];
     }

@@ -22,6 +22,7 @@ const OPEN: u8 = 0;
 /// open events stand in the list as one, behind the placed ones, which pushes to whatever any of them pushes to.
 #[derive(Clone, Copy)]
 pub struct CycleSieve<'a> {
+    // No invariant: whoever makes a sieve may bring tables that do not fit, and then it rejects nothing.
     /// The added events.
     pub events: &'a [Event],
     /// The yes/no table of the kept pairs.
@@ -59,6 +60,7 @@ impl CycleSieve<'_> {
         let Ok(mut pushed) = EventTable::copy(self.events, self.pushed) else {
             return false;
         };
+        // A column is the number of an event, and no place that is read here.
         for column in 0..pushed.side() as u8 {
             pushed.mark(OPEN, column, self.has_open_push(placed, column));
         }
@@ -72,6 +74,7 @@ impl CycleSieve<'_> {
         requires within { column < length self.now.events.now + 8 }
         ensures { Decides result (OpenPush (length self.now.events.now + 8) self.now.pushed.now self.now.pushing.now placed.now column) }
     {
+        // By place, since an item of an order is the place of an event in the list.
         (0..self.pushing.len()).any(
             |item|
                 requires within { item < length self.now.pushing.now }
@@ -89,6 +92,7 @@ impl CycleSieve<'_> {
         requires within { column < length self.now.events.now + 8 }
         ensures { Decides result (Yes (length self.now.events.now + 8) self.now.pushed.now event column) }
     {
+        // Not `side_of`, which would have to be taken apart, though the table fits.
         let side = self.events.len() + usize::from(INITIAL);
         let row = usize::from(event);
         row < side && self.pushed[row * side + usize::from(column)] != 0
@@ -102,6 +106,7 @@ fn pick(pushing: &[u8], placed: &[u8]) -> Option<[u8; 9]>
     ensures { MatchOption result (NoItem pushing.now placed.now) (λ list. list ≡ picked pushing.now placed.now ++ replicate (9 - length placed.now) 0) }
 {
     let mut list = [OPEN; 9];
+    // Not `zip`, since a proof knows no value that `iter_mut` has lent to it.
     for (place, item) in placed.iter().enumerate() {
         list[place] = *pushing.get(usize::from(*item))?;
     }

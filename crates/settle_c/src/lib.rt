@@ -9,6 +9,7 @@ use measures::reach::settle_reach;
 use measures::settling::Refusal;
 use measures::steps::settle_steps;
 
+// Two exports and not one, since C calls each by its name.
 /// Settles a yes/no table; answers 0, or the number of the refusal.
 #[unsafe(no_mangle)]
 pub extern "C" fn jam21_settle_reach(cells: &mut [u8], side: usize) -> u8

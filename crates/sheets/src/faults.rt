@@ -13,6 +13,7 @@ pub(crate) fn first_fault(verdict: Verdict, steps: &[u8], count: u8, present: u8
     requires { length steps.now ≡ count * 5 }
     ensures { MatchOption result ((k : ℕ) → k < count → Fault present verdict count steps.now k → ⊥) (λ k. FirstFault present verdict count steps.now k) }
 {
+    // By place, since a fault speaks of the steps beside this one too; the place that is answered is a byte, as the count is.
     (0..count).find(
         |&place|
             requires within { place < count }
@@ -37,7 +38,8 @@ fn is_faulty(verdict: Verdict, steps: &[u8], count: usize, place: usize, present
         || starts_where_another_did(steps, place)
 }
 
-// The place of the step behind the one at this place, of `count`: behind the last is the first.
+// The place of the step behind the one at this place, of `count`: behind the last is the first. (`judging` asks a list for
+// the event there, and has no places of steps yet.)
 fn place_behind(place: usize, count: usize) -> usize
     requires { place < count }
     ensures { result ≡ next count place }
@@ -74,6 +76,7 @@ fn starts_where_another_did(steps: &[u8], place: usize) -> bool
     ensures { Decides result ((j : ℕ) × (j < place) × («from_byte» steps.now j ≡ «from_byte» steps.now place)) }
 {
     let from = steps[place * STEP_SIZE];
+    // By place: chunks of five would leave a remainder to speak of, which is never there.
     (0..place).any(
         |earlier|
             requires { earlier * 5 < length steps.now }

@@ -19,6 +19,7 @@ pub struct Step {
     pub from: u8,
     pub to: u8,
     pub rule: Rule,
+    // Bytes and no `Option`s: a step is what stands in a sheet, faults too.
     pub reader: u8,
     pub second: u8,
 }

@@ -17,6 +17,7 @@ const STEP: u8 = 1;
 /// The steps read so far: a table of step counts, 1 where a step leads from a row to a column.
 #[derive(Drop)]
 pub struct StepList {
+    // Step counts, as settling takes them, and no `Option`s.
     cells: [u8; CELLS],
     named: [bool; MOST],
 }

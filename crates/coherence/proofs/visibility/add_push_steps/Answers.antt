@@ -1,6 +1,5 @@
 use Rattle.std.proofs.Common.{◌≡◌, length, get_or, refl, sym, ap, ◌∙◌, subst, add-mul, one-mul, arith, rules}
-use Rattle.coherence.specs.Visibility.{Gained, PushedLater}
-use Rattle.coherence.proofs.VisibilityPushes.{PushedFrom, back_of, row_read, pushed_none, pushed_skip, pushed_joined, pushed_all}
+use Rattle.coherence.proofs.VisibilityPushes.{PushedFrom, back_of, row_read, pushed_none, pushed_joined}
 use Rattle.coherence.proofs.visibility.add_push_steps.Goals as goal
 
 pub loop-event-init : goal.loop-event-init
@@ -13,20 +12,6 @@ loop-event-init c =
       side = refl;
       front = record { few = omega arith; same = λ k h. ap (λ l. get_or l k 0) rest };
       steps = pushed_none c.side-side.result c.args.pushed.now L _ c.args.table.now.cells c.side-side.ensures.small (omega arith);
-    }
-
-pub loop-event-preserved : goal.loop-event-preserved
-loop-event-preserved c =
-    let n = c.side-side.result in
-    let L = c.args.list.now in
-    let h = c.loop-event.invariant in
-    let back = back_of L c.loop-event.event-iterator.iter.rest.now c.next.new.self.iter.rest.now c.in-Some.event.now c.in-Some.ensures.steps h.front in
-    record {
-      side = h.side;
-      front = back.front;
-      steps = pushed_skip n c.args.pushed.now L _ back.within c.args.table.now.cells c.loop-event.table.cells c.loop-event.later
-          (subst (λ k. PushedFrom n c.args.pushed.now L k c.args.table.now.cells c.loop-event.table.cells c.loop-event.later) back.long h.steps)
-          (omega (arith, back.there));
     }
 
 pub loop-event-preserved-then-row-side : goal.loop-event-preserved-then-row-side
@@ -45,14 +30,3 @@ loop-event-preserved-then-row-side c =
           (subst (λ k. PushedFrom n c.args.pushed.now L k c.args.table.now.cells c.loop-event.table.cells c.loop-event.later) back.long h.steps)
           e back.there c.if-row-side.true c.join_row.ensures _ (λ b q. row_read n c.args.pushed.now e _ b (omega (arith, add-mul e 1 n, one-mul n)) q) (omega (arith, c.side-side.ensures.small)) c.join.ensures;
     }
-
-pub returns-clause-side : goal.returns-clause-side
-returns-clause-side c = c.loop-event.invariant.side
-
-pub returns-clause-steps : goal.returns-clause-steps
-returns-clause-steps c =
-    let pushed = c.args.pushed.now in
-    let L = c.args.list.now in
-    let cells = c.args.table.now.cells in
-    subst (λ n. Gained n (PushedLater n pushed L) cells c.loop-event.table.cells) c.side-side.ensures.value
-    (pushed_all c.side-side.result pushed L _ cells c.loop-event.table.cells c.loop-event.later c.in-None.ensures.steps.0 c.loop-event.invariant.steps)

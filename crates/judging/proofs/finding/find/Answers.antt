@@ -1,15 +1,8 @@
-use Rattle.std.proofs.Common.{◌+◌, ◌*◌, ◌≤◌, length, sym, ◌∙◌, mul-le-mul, arith, rules}
+use Rattle.std.proofs.Common.{sym, ◌∙◌}
 use Rattle.std.proofs.lemmas.Bool.{false≢true}
-use Rattle.std.proofs.lemmas.Bool.Decides.{not_from_Decides}
-use Rattle.judging.specs.Judging.{not_pushing, not_lawful}
+use Rattle.judging.specs.Judging.{not_lawful}
 use Rattle.coherence.proofs.AskedVisibility.{asked_told}
 use Rattle.judging.proofs.finding.find.Goals as goal
-
-pub returns-then-not-is_push_order : goal.returns-then-not-is_push_order
-returns-then-not-is_push_order g c =
-    let m = g.P.Profile.meaning c.args.profile.now in
-    let told = c.is_push_order.ensures m c.events-events.result.now c.in-Ok.ensures in
-    rw (← c.events-events.ensures.value) (not_pushing (not_from_Decides _ told c.if-not-is_push_order.true) c.into.ensures)
 
 pub returns-in-Some : goal.returns-in-Some
 returns-in-Some g c =

@@ -1,4 +1,4 @@
-use Rattle.std.proofs.Common.{◌≡◌, ℕ, Option, None, Some, ◌-◌, ◌≤◌, take, subst, arith, rules}
+use Rattle.std.proofs.Common.{◌-◌, ◌≤◌, take, subst, arith, rules}
 use Rattle.cycles.specs.Answers.{CycleOrNone}
 use Rattle.cycles.proofs.Carrying.{closed_carries}
 use Rattle.coherence.specs.Naming.{Named}
@@ -9,13 +9,6 @@ use Rattle.judging.specs.Laying.{SomeCo}
 use Rattle.judging.proofs.Found.{front_long, front_closed, front_shortest}
 use Rattle.judging.proofs.Showing.{laid_least}
 use Rattle.judging.proofs.finding.find_coherence_cycle.Goals as goal
-
-pub returns-in_err-count : goal.returns-in_err-count
-returns-in_err-count c m L told =
-    let R = Co m c.args.sight.now.events.now L in
-    let none : CycleOrNone R _ c.coherence_cycle.new.cycle None =
-    subst (CycleOrNone R _ c.coherence_cycle.new.cycle) c.in_err-count.was (c.in-Ok.ensures.1 m L told) in
-    rw c.from_residual.ensures (λ x. none.0 x.0 x.1)
 
 pub slice_bounds-lay-end : goal.slice_bounds-lay-end
 slice_bounds-lay-end c =

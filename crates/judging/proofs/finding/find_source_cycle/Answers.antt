@@ -1,26 +1,11 @@
-use Rattle.std.proofs.Common.{None, ◌-◌, take, subst, arith}
+use Rattle.std.proofs.Common.{◌-◌, take, subst}
 use Rattle.cycles.specs.Answers.{CycleOrNone}
 use Rattle.axioms.specs.Relations.{SourceStep}
 use Rattle.sheets.specs.declared.verdict.Verdict.TheVariants.{SourceCycle}
 use Rattle.judging.specs.Laying.{SourceNamed}
-use Rattle.judging.proofs.Found.{front_long, front_closed, front_shortest}
+use Rattle.judging.proofs.Found.{front_shortest}
 use Rattle.judging.proofs.Showing.{laid_least}
 use Rattle.judging.proofs.finding.find_source_cycle.Goals as goal
-
-pub returns-in_err-count : goal.returns-in_err-count
-returns-in_err-count c =
-    let R = SourceStep c.args.events.now in
-    let none : CycleOrNone R _ c.source_cycle.new.cycle None = subst (CycleOrNone R _ c.source_cycle.new.cycle) c.in_err-count.was c.in-Ok.ensures.1 in
-    rw c.from_residual.ensures (λ x. none.0 x.0 x.1)
-
-pub lay-requires : goal.lay-requires
-lay-requires c =
-    let R = SourceStep c.args.events.now in
-    let w = subst (CycleOrNone R _ c.source_cycle.new.cycle) (c.in_ok-count.was) c.in-Ok.ensures.1 in
-    record {
-      few = omega (arith, front_long R _ _ _ w, w.room);
-      closed = front_closed R _ _ _ w;
-    }
 
 pub returns : goal.returns
 returns c m L =

@@ -1,16 +1,9 @@
-use Rattle.std.proofs.Common.{◌≤◌, length, refl, subst, arith}
+use Rattle.std.proofs.Common.{◌≤◌, length, subst, arith}
 use Rattle.std.proofs.lemmas.List.{length-take}
-use Rattle.std.proofs.lemmas.Result.{err_from_is_err_and}
 use Rattle.graph.specs.Holds.{added_events}
 use Rattle.sheets.specs.Written.{Written}
-use Rattle.judging.specs.Judging.{by_list}
 use Rattle.judging.proofs.Writing.{found_written}
 use Rattle.judging.proofs.judging.judge.Goals as goal
-
-pub returns-in_err-verdict : goal.returns-in_err-verdict
-returns-in_err-verdict g c =
-    let p = err_from_is_err_and c.from_residual.result c.from_residual.ensures.1 in
-    rw (p.1, p.2) (by_list c.if-buffer-lt-LEAST_BUFFER.false c.in_err-verdict.ensures, refl)
 
 pub returns : goal.returns
 returns g c =

@@ -1,9 +1,6 @@
 use Rattle.std.proofs.Common.{refl, ◌∙◌}
-use Rattle.marker.proofs.Performing.{none_yet, one_more, all_made}
+use Rattle.marker.proofs.Performing.{one_more}
 use Rattle.marker.proofs.entries.perform_all.Goals as goal
-
-pub loop-entry-init : goal.loop-entry-init
-loop-entry-init c = (refl, λ hs holds. none_yet _ _ hs holds)
 
 pub loop-entry-preserved : goal.loop-entry-preserved
 loop-entry-preserved c = (
@@ -11,9 +8,3 @@ loop-entry-preserved c = (
   λ hs holds. one_more _ _ _ _ _ hs (c.loop-entry.invariant.1 hs holds) c.loop-entry-test.true c.perform-entry.new.self c.perform-entry.result _ refl
       c.perform-entry.ensures.told c.perform-entry.ensures.slice c.perform-entry.ensures.leaves.len,
 )
-
-pub returns : goal.returns
-returns c = record {
-  told = λ hs holds. all_made _ _ _ _ _ hs (c.loop-entry.invariant.1 hs holds) c.loop-entry-test.false;
-  lent = c.loop-entry.invariant.0;
-}

@@ -1,5 +1,5 @@
 use Rattle.std.proofs.Common.{refl, inl}
-use Rattle.marking.proofs.Failing.{then_clear, not_clear}
+use Rattle.marking.proofs.Failing.{then_clear}
 use Rattle.marking.proofs.truth.check_steps.Goals as goal
 
 pub returns-in-Some : goal.returns-in-Some
@@ -9,7 +9,3 @@ returns-in-Some c = λ m L told ts e.
 pub returns-in-Clear : goal.returns-in-Clear
 returns-in-Clear c = λ m L told ts e.
     then_clear m _ L _ _ (c.in_default.ensures.told m L told ts e) _ c.in-Clear.is c.check_clear.result (c.check_clear.ensures m L told)
-
-pub returns-in-SourceCycle : goal.returns-in-SourceCycle
-returns-in-SourceCycle c = λ m L told ts e.
-    (c.in_default.ensures.told m L told ts e, λ clear. absurd (not_clear _ c.in-SourceCycle.is clear))

@@ -11,11 +11,6 @@ use Rattle.axioms.specs.Relations.{PushOrder}
 use Rattle.marking.proofs.truth.check_truth.Goals as goal
 use Rattle.marking.proofs.truth.check_truth.Goals.{else-denies_source_cycle, then-denies_source_cycle+in_ok-check_order}
 
-pub check_order-requires : goal.check_order-requires
-check_order-requires g c =
-    let m = g.P.Profile.meaning c.args.profile.now in
-    ((c.is_push_order.ensures m c.events-events.result.now c.in-Ok.ensures).0 c.if-not-is_push_order.false).once
-
 pub returns-then-not-is_push_order : goal.returns-then-not-is_push_order
 returns-then-not-is_push_order g c bs t =
     let m = g.P.Profile.meaning c.args.profile.now in

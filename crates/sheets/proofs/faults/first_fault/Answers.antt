@@ -1,13 +1,10 @@
-use Rattle.std.proofs.Common.{ℕ, ◌<◌, ◌≤◌, List, true, false, Decides, Option, None, Some, MatchOption, refl, subst, arith, rules, tests}
+use Rattle.std.proofs.Common.{ℕ, ◌<◌, ◌≤◌, List, true, false, Decides, Option, None, Some, MatchOption, refl, subst, arith, rules}
 use Rattle.std.proofs.lemmas.Bool.Decides.{not_from_Decides}
 use borrow.Author.Rules.{of_calls}
-use Rattle.std.proofs.lemmas.Iterator.{first_from_Range, serves_from_Range}
+use Rattle.std.proofs.lemmas.Iterator.{first_from_Range}
 use Rattle.sheets.specs.declared.verdict.Verdict.{Verdict}
 use Rattle.sheets.specs.Faults.{Fault, FirstFault}
 use Rattle.sheets.proofs.faults.first_fault.Goals as goal
-
-pub find-requires : goal.find-requires
-find-requires c = record { can = tt; finite = tt; callable = serves_from_Range (λ x q k. search (rules, tests)) (λ x low high. search rules) }
 
 first_told : (present : ℕ) (v : Verdict) (n : ℕ) (ss : List ℕ) (r : Option ℕ) →
     MatchOption r ((k : ℕ) → 0 ≤ k → k < n → Fault present v n ss k → ⊥)

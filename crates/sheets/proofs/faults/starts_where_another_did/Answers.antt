@@ -1,11 +1,8 @@
 use Rattle.std.proofs.Common.{◌≡◌, arith, rules, tests}
-use Rattle.std.proofs.lemmas.Iterator.{YieldsList-from_range, cases_from_any, serves_from_Range}
+use Rattle.std.proofs.lemmas.Iterator.{YieldsList-from_range, cases_from_any}
 use Rattle.sheets.specs.Entries.{from}
 use Rattle.axioms.proofs.Any.{decided_below}
 use Rattle.sheets.proofs.faults.starts_where_another_did.Goals as goal
-
-pub any-requires : goal.any-requires
-any-requires c = record { can = tt; finite = tt; callable = serves_from_Range (λ x q k. search (rules, tests)) (λ x low high. omega arith) }
 
 pub returns : goal.returns
 returns c =

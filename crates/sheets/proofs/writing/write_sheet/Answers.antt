@@ -1,10 +1,6 @@
-use Rattle.std.proofs.Common.{◌+◌, ◌*◌, [], length, refl, ◌∙◌, ⊎_elim, arith}
-use Rattle.std.proofs.lemmas.List.Edits.{paste_none}
+use Rattle.std.proofs.Common.{◌+◌, ◌*◌, length, refl, ◌∙◌, ⊎_elim, arith}
 use Rattle.sheets.proofs.Fronts.{one_step_more, wrote, front_head}
 use Rattle.sheets.proofs.writing.write_sheet.Goals as goal
-
-pub loop-place-init : goal.loop-place-init
-loop-place-init c = paste_none _ (2 + length c.args.order.now + 1) []
 
 pub loop-place-preserved : goal.loop-place-preserved
 loop-place-preserved c =

@@ -4,9 +4,6 @@ use Rattle.coherence.proofs.FirstRule.{pair_more, pair_found, pair_none, second_
 use Rattle.coherence.proofs.sight.Sight.first_pair.Goals as goal
 use Rattle.coherence.proofs.sight.Sight.first_pair.Goals.{then-reads_from+in_default, else-reads_from}
 
-pub loop-reader-init : goal.loop-reader-init
-loop-reader-init c m L told u h = absurd (omega arith)
-
 pub loop-reader-preserved : goal.loop-reader-preserved
 loop-reader-preserved c m L told =
     let es = c.args.self.now.events.now in

@@ -1,15 +1,8 @@
 use Rattle.std.proofs.Common.{Some, sym, subst}
 use Rattle.std.proofs.lemmas.Bool.Decides.{not_from_Decides}
 use Rattle.coherence.specs.Sights.{Throughout}
-use Rattle.coherence.proofs.FirstRule.{Answer, by_coww, by_cowr, by_corw, by_corr}
+use Rattle.coherence.proofs.FirstRule.{Answer, by_cowr, by_corw, by_corr}
 use Rattle.coherence.proofs.sight.Sight.name_step.Goals as goal
-
-pub returns-then-holds : goal.returns-then-holds
-returns-then-holds c =
-    let answer : Throughout c.args.self.now (λ es m L. Answer m es L c.args.p c.args.q (Some c.by.result)) =
-    λ m L told. let es = c.args.self.now.events.now in
-    subst (λ n. Answer m es L c.args.p c.args.q (Some n)) (sym c.by.ensures) (by_coww m es L c.args.p c.args.q ((c.holds.ensures m L told).0 c.if-holds.true)) in
-    record { names = λ m L told. (answer m L told).names; first = λ m L told. (answer m L told).first }
 
 pub returns-in-Some : goal.returns-in-Some
 returns-in-Some c =
