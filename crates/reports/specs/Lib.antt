@@ -1,1 +1,2 @@
 pub mod ProfileNames
+pub mod Renamed

@@ -1,5 +1,6 @@
 // What the command line asks for.
 ghost use Rattle.reports.specs.ProfileNames.{Named};
+ghost use Rattle.reports.specs.Renamed.{Renamed};
 
 use std::fmt;
 use std::str::FromStr;
@@ -109,7 +110,9 @@ impl Options {
     }
 
     /// The options with a profile by its name.
-    pub fn with_profile(self, name: &str) -> Result<Options, BadOption> {
+    pub fn with_profile(self, name: &str) -> Result<Options, BadOption>
+        ensures { Renamed self name.now result }
+    {
         Ok(Options {
             profile: name.parse()?,
             ..self
