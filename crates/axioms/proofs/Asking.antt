@@ -1,6 +1,7 @@
 -- What a profile need not be asked, and where the pairs of a profile lie.
 use Rattle.std.proofs.Common.{ℕ, ◌+◌, ◌<◌, List, length, arith}
 use Rattle.graph.specs.declared.event.Event.{Event}
+use Rattle.graph.specs.Order.{Po}
 use Rattle.profiles.specs.Meaning.{Meaning}
 use Rattle.profiles.specs.Laws.{Lawful}
 use Rattle.axioms.specs.declared.table.EventTable.{EventTable}
@@ -8,6 +9,9 @@ use Rattle.axioms.specs.EventTables.{Says, Tells}
 use Rattle.axioms.specs.Relations.{Kept, Pushed}
 
 module _ (m : Meaning) (lawful : Lawful m) (es : List Event) (a b : ℕ) where
+  pub pushed_ordered : Pushed m es a b → Po es a b
+  pushed_ordered p = lawful.ordered es a b (lawful.narrower es a b p)
+
   -- The events of a kept pair, and of a pushed one, are present.
   pub kept_within : Kept m es a b → (a < length es + 8) × (b < length es + 8)
   kept_within k = let o = lawful.ordered es a b k in (omega (arith, o.earlier, o.added.1), o.added.1)

@@ -1,10 +1,12 @@
 -- Drawing a relation place by place.
-use Rattle.std.proofs.Common.{◌≡◌, ℕ, ◌+◌, ◌*◌, ◌/◌, ◌%◌, ◌<◌, ◌≢◌, List, length, get_or, set, Decides, sym, ap, ◌∙◌, subst, inl, inr, arith}
+use Rattle.std.proofs.Common.{◌≡◌, ℕ, ◌+◌, ◌*◌, ◌/◌, ◌%◌, ◌<◌, ◌≢◌, List, length, get_or, set, Decides, Result, Ok, Err, sym, ap, ◌∙◌, subst, inl, inr, arith}
 use lib.Arith.{digits_lt, digits_div, digits_mod}
 use Rattle.std.proofs.lemmas.List.{get_or-set_same, get_or-set_other}
 use Rattle.std.proofs.lemmas.Bool.{cases_lt}
+use Rattle.measures.specs.declared.settling.Refusal.{Refusal}
 use Rattle.measures.specs.Reach.{yes}
 use Rattle.measures.specs.Walks.{at}
+use Rattle.axioms.specs.Tables.{Drawing, DrawingEach}
 
 -- The places before k are drawn.
 abbrev pub DrawnTo : (ℕ → ℕ → Type 0) → ℕ → List ℕ → ℕ → Type 0
@@ -29,3 +31,8 @@ drawn_more R n a b v xs bn within told so_far c d q h =
 
 pub place_within : (a b n : ℕ) → a < n → b < n → a * n + b < n * n
 place_within a b n p q = digits_lt p q
+
+-- The family of one relation alone draws as that relation does.
+pub drawing_alone : (R : ℕ → ℕ → Type 0) (n : ℕ) (xs ys : List ℕ) (r : Result (Unit {0}) Refusal) → DrawingEach (Unit {0}) (λ _. R) n xs ys r → Drawing R n xs ys r
+drawing_alone R n xs ys (Ok u) h = (h.0, h.1 tt)
+drawing_alone R n xs ys (Err why) h = h

@@ -3,12 +3,14 @@
 --   Asked m es p     the tables p tell the kept and the pushed pairs of a profile that means m, among the added events
 --                    es and the initial writes
 --   AskedOf p P      P holds of every m and es that the tables p tell so
+--   TooMany es why   a refusal, since es are more than 56 events; it stands in Tables, and is passed on here
 use Rattle.std.specs.Prelude.{◌≡◌, ◌+◌, List, length}
 use Rattle.graph.specs.declared.event.Event.{Event}
 use Rattle.profiles.specs.Meaning.{Meaning}
 use Rattle.profiles.specs.Laws.{Lawful}
 use Rattle.axioms.specs.Relations.{Kept, Pushed}
 use Rattle.axioms.specs.Tables.{Drawn}
+pub use Rattle.axioms.specs.Tables.{TooMany}
 use Rattle.axioms.specs.declared.pairs.Pairs.{Pairs}
 
 pub record Asked (m : Meaning) (es : List Event) (p : Pairs) : Type 0 where

@@ -4,7 +4,7 @@ ghost use Rattle.axioms.specs.EventTables.{Tells};
 ghost use Rattle.axioms.specs.Relations.{Kept, Pushed};
 ghost use Rattle.axioms.specs.Tables.{Drawn, TooMany};
 
-use crate::relation::Relation;
+use crate::relation::{Relation, RelationFamily};
 use crate::table::EventTable;
 use graph::event::Event;
 use graph::order::precedes;
@@ -29,7 +29,7 @@ impl Pairs {
         ensures { MatchResult result (Asked (P.meaning profile.now) events.now) (TooMany events.now) }
     {
         let kept = EventTable::of(events, &KeptPairs { profile, events })?;
-        let pushed = EventTable::of(
+        let pushed = EventTable::of_family(
             events,
             &PushedPairs {
                 profile,
@@ -73,7 +73,7 @@ struct KeptPairs<'a, P> {
 }
 
 impl<P: Profile> Relation for KeptPairs<'_, P> {
-    ghost related = { λ s _ a b. Kept (P.meaning s.profile.now) s.events.now a b };
+    ghost related = { λ s a b. Kept (P.meaning s.profile.now) s.events.now a b };
 
     fn holds(&self, a: u8, b: u8) -> bool {
         precedes(self.events, a, b) && self.profile.keeps(self.events, a, b)
@@ -88,7 +88,7 @@ struct PushedPairs<'a, P> {
     kept: &'a EventTable,
 }
 
-impl<P: Profile> Relation for PushedPairs<'_, P> {
+impl<P: Profile> RelationFamily for PushedPairs<'_, P> {
     ghost known = { λ s. Tells (Unit {0}) (λ _. Kept (P.meaning s.profile.now) s.events.now) s.events.now s.kept.now };
 
     ghost related = { λ s _ a b. Pushed (P.meaning s.profile.now) s.events.now a b };

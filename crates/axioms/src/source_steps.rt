@@ -12,7 +12,7 @@ pub struct SourceSteps<'a> {
 }
 
 impl Relation for SourceSteps<'_> {
-    ghost related = { λ s _ a b. SourceStep s.events.now a b };
+    ghost related = { λ s a b. SourceStep s.events.now a b };
 
     fn holds(&self, a: u8, b: u8) -> bool {
         precedes(self.events, a, b) || reads_from(self.events, a, b)

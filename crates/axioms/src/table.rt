@@ -2,7 +2,7 @@
 ghost use Rattle.std.specs.Prelude.{◌≡◌, ℕ, ◌*◌, ◌≤◌, length, Decides, MatchResult};
 ghost use Rattle.axioms.specs.Tables.{SideOf, TooMany, CellsJoined};
 
-use crate::relation::{Relation, draw};
+use crate::relation::{Alone, Relation, RelationFamily, draw_family};
 use graph::event::{Event, INITIAL};
 use measures::reach::settle_reach;
 use measures::settling::{CELLS, LARGEST, Refusal, check_square};
@@ -48,11 +48,18 @@ impl EventTable {
     /// Draws a relation: yes where it leads from the row to the column. `events` are the added events; more than 56 are
     /// refused.
     pub fn of<R: Relation>(events: &[Event], relation: &R) -> Result<EventTable, Refusal>
-        ensures { MatchResult result (Tells (R.known relation.now) (R.related relation.now) events.now) (TooMany events.now) }
+        ensures { MatchResult result (Tells (Unit {0}) (λ _. R.related relation.now) events.now) (TooMany events.now) }
+    {
+        EventTable::of_family(events, &Alone(relation))
+    }
+
+    /// Draws a family of relations: the table is that of each. `events` are the added events; more than 56 are refused.
+    pub fn of_family<F: RelationFamily>(events: &[Event], family: &F) -> Result<EventTable, Refusal>
+        ensures { MatchResult result (Tells (F.known family.now) (F.related family.now) events.now) (TooMany events.now) }
     {
         let side = side_of(events)?;
         let mut cells = [0; CELLS];
-        draw(relation, &mut cells[0..side * side], side)?;
+        draw_family(family, &mut cells[0..side * side], side)?;
         Ok(EventTable { side, cells })
     }
 

@@ -1,10 +1,10 @@
 -- The cycles of the table of coherence are those of coherence.
-use Rattle.std.proofs.Common.{◌≡◌, ℕ, ◌+◌, ◌*◌, Bool, true, List, length, Ok, Err, Decides, Option, Result, sym, refl, ap, ◌∙◌, subst, arith}
+use Rattle.std.proofs.Common.{◌≡◌, ℕ, ◌+◌, ◌*◌, ◌≤◌, Bool, true, List, length, IfOk, IfSome, Some, None, Ok, Err, Decides, Option, Result, sym, refl, ap, ◌∙◌, subst, arith}
 use Rattle.std.proofs.lemmas.Bool.{false≢true}
 use Rattle.measures.specs.declared.settling.Refusal.{Refusal}
 use Rattle.measures.specs.Outcome.{Square}
 use Rattle.measures.specs.Walks.{Yes}
-use Rattle.cycles.specs.Answers.{CycleOrNone, ShortestCycle}
+use Rattle.cycles.specs.Answers.{CycleOrNone, ShortestCycle, CycleTest}
 use Rattle.cycles.specs.Cycles.{HasCycle}
 use Rattle.cycles.specs.Tables.{TableOf}
 use Rattle.cycles.proofs.Carrying.{table_same, answer_carries, decides_carries}
@@ -13,12 +13,11 @@ use Rattle.profiles.specs.Meaning.{Meaning}
 use Rattle.coherence.specs.Coherence.{TableDrawn, ShortestAnswer, TestAnswer}
 use Rattle.axioms.specs.Relations.{Rivals, Holds, Co}
 use Rattle.axioms.specs.Rules.{is_coherence}
-use Rattle.coherence.specs.Sights.{Known}
+use Rattle.coherence.specs.Sights.{Known, Throughout}
 use Rattle.axioms.specs.declared.table.EventTable.{EventTable}
-use Rattle.axioms.specs.EventTables.{cells_of, Says, Tells, Settled}
-use Rattle.axioms.specs.Tables.{Drawn, Drawing}
+use Rattle.axioms.specs.EventTables.{cells_of, Tells}
+use Rattle.axioms.specs.Tables.{Drawn, DrawingEach}
 use Rattle.axioms.proofs.Fronts.{front_drawn}
-use Rattle.axioms.proofs.Sources.{loop_told}
 use Rattle.coherence.specs.Visibility.{Fits, Told}
 use Rattle.axioms.specs.declared.rule.Rule.{Rule}
 use Rattle.axioms.specs.declared.rule.Rule.TheVariants.{ProgramOrder, ReadsFrom, Coww, Cowr, Corw, Corr}
@@ -52,10 +51,16 @@ module _ (m : Meaning) (es : List Event) (L : List ℕ) where
     pub test_told : (has : Bool) → Decides has (HasCycle (Yes (length es + 8) xs)) → Decides has (HasCycle (Co m es L))
     test_told = decides_carries (Yes (length es + 8) xs) (Co m es L) (table_same (length es + 8) xs (Co m es L) co_table)
 
+-- Whatever the table tells, a found cycle has at most 64 steps.
+pub few_steps : (n : ℕ) (xs old new : List ℕ) (r : Result (Option ℕ) Refusal) → ShortestCycle n xs old new r → IfOk r (λ o. IfSome o (λ k. k ≤ 64))
+few_steps n xs old new (Ok (Some k)) h = h.1.room
+few_steps n xs old new (Ok None) h = tt
+few_steps n xs old new (Err why) h = tt
+
 module _ (s : Sight) where
   -- The table of coherence became that of each profile and list that the sight shows.
   pub table_drawn : (n : ℕ) → n ≡ length s.events.now + 8 → (xs ys : List ℕ) (r : Result (Unit {0}) Refusal) →
-      Drawing (Known s) (λ k. Co k.meaning s.events.now k.list) n xs ys r → TableDrawn s xs ys r
+      DrawingEach (Known s) (λ k. Co k.meaning s.events.now k.list) n xs ys r → TableDrawn s xs ys r
   table_drawn n is xs ys (Ok u) h = (
     subst (λ k. Square k xs) is h.0,
     λ m L told. subst (λ k. Drawn (Co m s.events.now L) k ys) is (h.1 (record { meaning = m; list = L; told = told })),
@@ -84,12 +89,9 @@ module _ (s : Sight) where
     )
     shortest_answer n side xs cells size old new (Err why) h = absurd (h.unfit (omega (arith, t.small), size ∙ ap (λ k. k * k) (sym side)))
 
-    -- What `has_coherence_cycle` answers.
-    pub test_answer : (u : EventTable) → Settled t u → (has : Bool) → Decides has ((a : ℕ) × Says u a a) → TestAnswer s (Ok has)
-    test_answer u settled has told = (
-      fits,
-      λ m L known. test_told m s.events.now L t.cells
-          (subst (λ k. Drawn (Co m s.events.now L) k t.cells) steps.side (steps.drawn (record { meaning = m; list = L; told = known })))
-          has
-          (subst (λ k. Decides has (HasCycle (Yes k t.cells))) steps.side (loop_told t u settled has told)),
-    )
+-- What `has_coherence_cycle` answers.
+pub test_answer : (s : Sight) (xs ys : List ℕ) (r : Result Bool Refusal) → Fits s.events.now s.leads.now → Fits s.events.now xs →
+    Throughout s (λ es m L. Drawn (Co m es L) (length es + 8) xs) → CycleTest (length s.events.now + 8) xs ys r → TestAnswer s r
+test_answer s xs ys (Ok has) fits square drawn done =
+    (fits, λ m L told. test_told m s.events.now L xs (drawn m L told) has done.decides)
+test_answer s xs ys (Err why) fits square drawn refused = absurd (refused.unfit square)

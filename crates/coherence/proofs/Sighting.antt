@@ -1,10 +1,11 @@
 -- The rules by their tests: visibility as its table tells it, between events of the graph.
-use Rattle.std.proofs.Common.{◌≡◌, ℕ, ◌+◌, ◌-◌, ◌<◌, ◌≤◌, true, List, length, get_or, ap, ◌∙◌, inl, inr, arith}
+use Rattle.std.proofs.Common.{◌≡◌, ℕ, ◌+◌, ◌-◌, ◌<◌, ◌≤◌, true, false, List, length, get_or, Some, None, ap, ◌∙◌, inl, inr, arith}
 use Rattle.std.proofs.lemmas.List.{get_or_past}
-use Rattle.std.proofs.lemmas.Bool.{cases_lt, cond-false, le-ltb, both_ways}
+use Rattle.std.proofs.lemmas.Bool.{cases_lt, cond-true, cond-false, lt-ltb, le-ltb, both_ways}
 use Rattle.graph.specs.declared.event.Event.{Event}
 use Rattle.graph.specs.Codes.{is_write}
 use Rattle.graph.specs.Events.{event, initial_write, absent, Present}
+use Rattle.graph.specs.Lookup.{lookup}
 use Rattle.graph.specs.Order.{Rf}
 use Rattle.profiles.specs.Meaning.{Meaning}
 use Rattle.axioms.specs.Relations.{Visible, Rivals, ReadBetween}
@@ -20,6 +21,18 @@ write_present es n writes =
       | inl h ↦ h
       | inr past ↦ absurd (both_ways (is_write (event es n).code) (ap (λ e. is_write e.code) (event_past es n past)) writes)
     ]
+
+pub lookup_none : (es : List Event) (n : ℕ) → lookup es n ≡ None → length es + 8 ≤ n
+lookup_none es n none =
+    elim (cases_lt n (length es + 8)) [
+      | inl h ↦
+          let there : lookup es n ≡ Some (event es n) = cond-true _ (Some (event es n)) None (lt-ltb n (length es + 8) h) in
+          absurd (let z : ◌≡◌ {A = ℕ} 0 1 = cc in omega arith)
+      | inr past ↦ past
+    ]
+
+pub no_write : (es : List Event) (n : ℕ) → lookup es n ≡ None → is_write (event es n).code ≡ false
+no_write es n none = ap (λ e. is_write e.code) (event_past es n (lookup_none es n none))
 
 -- What the rules but corr ask of visibility lies between events of the graph.
 module _ (m : Meaning) (es : List Event) (L : List ℕ) (p q r : ℕ) where

@@ -1,5 +1,5 @@
 // Coherence: its steps, its table and its cycles.
-ghost use Rattle.std.specs.Prelude.{Decides, MatchResult};
+ghost use Rattle.std.specs.Prelude.{◌≤◌, Decides, IfOk, IfSome, MatchResult};
 ghost use Rattle.axioms.specs.EventTables.{Tells};
 ghost use Rattle.axioms.specs.Relations.{Co};
 ghost use Rattle.coherence.specs.Coherence.{ReadBefore, ByValue, ByOrder, Shows, TableDrawn, Refused, ShortestAnswer, TestAnswer};
@@ -7,12 +7,13 @@ ghost use Rattle.coherence.specs.Sights.{Known, Throughout};
 ghost use Rattle.coherence.specs.Visibility.{Fits};
 
 use crate::sight::Sight;
-use axioms::relation::{Relation, draw};
+use axioms::relation::{RelationFamily, draw_family};
 use axioms::table::{EventTable, side_of};
+use cycles::exists::has_cycle;
 use cycles::shortest::shortest_cycle;
 use graph::event::INITIAL;
 use graph::order::{precedes, reads_from};
-use measures::settling::{LARGEST, Refusal, check_square};
+use measures::settling::{CELLS, LARGEST, Refusal, check_square};
 
 impl Sight<'_, '_> {
     /// Does a step of coherence lead from `p` to `q`, by any rule?
@@ -71,7 +72,7 @@ impl Sight<'_, '_> {
     pub fn draw_coherence(&self, cells: &mut [u8]) -> Result<(), Refusal>
         ensures { TableDrawn self.now cells.old cells.new result }
     {
-        draw(&Coherence { sight: self }, cells, side_of(self.events)?)
+        draw_family(&Coherence { sight: self }, cells, side_of(self.events)?)
     }
 
     /// Finds a coherence cycle with the fewest steps, and writes its events to the front of `cycle`, the lowest first.
@@ -79,7 +80,8 @@ impl Sight<'_, '_> {
     /// Answers the number of steps, which is the number of events written; the rest of `cycle` is as it was. Without a cycle the
     /// answer is `None`. Where the table of visibility does not fit the events the call is refused. In both, `cycle` is as it was.
     pub fn coherence_cycle(&self, cycle: &mut [u8; LARGEST]) -> Result<Option<usize>, Refusal>
-        ensures { ShortestAnswer self.now cycle.old cycle.new result }
+        ensures answer { ShortestAnswer self.now cycle.old cycle.new result }
+        ensures few { IfOk result (λ found. IfSome found (λ count. count ≤ 64)) }
     {
         // No heap: the cycle goes into lent memory, and the count says how much of that is the cycle's.
         let steps = self.coherence()?;
@@ -90,9 +92,12 @@ impl Sight<'_, '_> {
     pub fn has_coherence_cycle(&self) -> Result<bool, Refusal>
         ensures { TestAnswer self.now result }
     {
-        let mut steps = self.coherence()?;
-        steps.settle();
-        Ok(steps.has_loop())
+        let side = side_of(self.events)?;
+        check_square(self.leads, side)?;
+        let mut table = [0; CELLS];
+        let cells = &mut table[0..side * side];
+        self.draw_coherence(cells)?;
+        has_cycle(cells, side)
     }
 
     // The table of coherence. Where the table of visibility does not fit the events the call is refused.
@@ -100,17 +105,17 @@ impl Sight<'_, '_> {
         ensures { MatchResult result (λ t. Fits self.now.events.now self.now.leads.now × Tells (Known self.now) (λ k. Co k.meaning self.now.events.now k.list) self.now.events.now t) (Refused self.now) }
     {
         check_square(self.leads, side_of(self.events)?)?;
-        EventTable::of(self.events, &Coherence { sight: self })
+        EventTable::of_family(self.events, &Coherence { sight: self })
     }
 }
 
-// Coherence as a relation, for each profile and push order whose visibility the sight shows.
+// Coherence as a family of relations: one for each profile and push order whose visibility the sight shows.
 #[derive(Clone, Copy)]
 struct Coherence<'s, 'e, 't> {
     sight: &'s Sight<'e, 't>,
 }
 
-impl Relation for Coherence<'_, '_, '_> {
+impl RelationFamily for Coherence<'_, '_, '_> {
     ghost known = { λ s. Known s.sight.now };
 
     ghost related = { λ s k p q. Co k.meaning s.sight.now.events.now k.list p q };

@@ -18,7 +18,7 @@ use profiles::profile::Profile;
 struct KeptPairs<'a>(&'a [Event]);
 
 impl Relation for KeptPairs<'_> {
-    ghost related = { λ s _ a b. jam21.kept s.0.now a b ≡ true };
+    ghost related = { λ s a b. jam21.kept s.0.now a b ≡ true };
 
     fn holds(&self, a: u8, b: u8) -> bool {
         Jam21.keeps(self.0, a, b)
@@ -29,7 +29,7 @@ impl Relation for KeptPairs<'_> {
 struct PushedPairs<'a>(&'a [Event]);
 
 impl Relation for PushedPairs<'_> {
-    ghost related = { λ s _ a b. jam21.pushed s.0.now a b ≡ true };
+    ghost related = { λ s a b. jam21.pushed s.0.now a b ≡ true };
 
     fn holds(&self, a: u8, b: u8) -> bool {
         Jam21.pushes(self.0, a, b)

@@ -1,11 +1,13 @@
 // Why a call of the marker is refused.
-ghost use Rattle.std.specs.Prelude.{◌≡◌};
+ghost use Rattle.std.specs.Prelude.{◌≡◌, ◌==◌, Decides};
 ghost use Rattle.graph.specs.Refusals.{number as «number_of_lem», plain as «plain_of_lem»};
+ghost use Rattle.std.specs.Cmp.Rules.{comparing};
+ghost use Rattle.std.proofs.Common.{rules};
 
 use std::fmt;
 
 /// The refusals of every call of the marker, by rising number from 1.
-#[derive(Clone, Copy, PartialEq, Eq, Debug)]
+#[derive(Clone, Copy, Eq, Debug)]
 pub enum Refusal {
     NoRoom = 1,
     ThreadTooHigh,
@@ -70,6 +72,20 @@ impl From<Refusal> for Refused {
 
     fn from(refusal: Refusal) -> Refused {
         Refused::plain(refusal)
+    }
+}
+
+// Written out, so that its contract says in one clause that two refusals are equal exactly if they are one.
+impl PartialEq for Refusal {
+    ghost eq = { λ x y. «number_of_lem» x == «number_of_lem» y };
+
+    ghost laws = { Prim.search (comparing, rules) };
+
+    fn eq(&self, other: &Refusal) -> bool
+        ensures value { result ≡ («number_of_lem» self.now == «number_of_lem» other.now) }
+        ensures decides { Decides result (self.now ≡ other.now) }
+    {
+        self.number() == other.number()
     }
 }
 

@@ -1,13 +1,20 @@
 -- Entries of a table that is kept row by row.
-use Rattle.std.proofs.Common.{◌≡◌, ℕ, ◌+◌, ◌*◌, ◌<◌, ◌≢◌, List, ◌++◌, map, take, drop, length, get_or, set, sym, ap, ◌∙◌}
+use Rattle.std.proofs.Common.{◌≡◌, ℕ, ◌+◌, ◌*◌, ◌/◌, ◌%◌, ◌<◌, ◌≢◌, List, ◌++◌, map, take, drop, length, get_or, set, sym, ap, ◌∙◌}
 use lib.ListN.{length-map}
-use lib.Arith.{digits_lt}
+use lib.Arith.{digits_lt, digits_div, digits_mod}
 use Rattle.std.proofs.lemmas.List.{get_or-map, get_or-set_same, get_or-set_other, get_or_append_left, get_or-append-add, get_or-take, get_or-drop, map-set, map-append, take-map, drop-map}
 use Rattle.measures.specs.Paths.{entry}
 use Rattle.measures.specs.Rounds.{cell}
 
 pub place_in : {n a b : ℕ} → a < n → b < n → a * n + b < n * n
 place_in p q = digits_lt p q
+
+-- Two entries stand at two places.
+pub place_other : (n a b c d : ℕ) → b < n → d < n → (a ≡ c → b ≡ d → ⊥) → a * n + b ≢ c * n + d
+place_other n a b c d q s apart same =
+    apart
+    (sym (digits_div a q) ∙ ap (λ p. p / n) same ∙ digits_div c s)
+    (sym (digits_mod a q) ∙ ap (λ p. p % n) same ∙ digits_mod c s)
 
 module _ {V W : Type 0} (means : V → W) (none : W) where
   pub cell_is : (xs : List V) (j : ℕ) (d : V) → j < length xs → cell means none xs j ≡ means (get_or xs j d)
@@ -46,6 +53,11 @@ module _ {V W : Type 0} (means : V → W) (none : W) where
 
   pub cell_after : (xs : List V) (p w j : ℕ) → cell means none (drop w (drop p xs)) j ≡ cell means none xs (p + (w + j))
   cell_after xs p w j = cell_behind (drop p xs) w j ∙ cell_behind xs p (w + j)
+
+-- A write to one entry leaves every other.
+pub entry_set_other : {V W : Type 0} (means : V → W) (none : W) (n : ℕ) (xs : List V) (a b c d : ℕ) (x : V) → b < n → d < n → (c ≡ a → d ≡ b → ⊥) →
+    entry means none n (set xs (a * n + b) x) c d ≡ entry means none n xs c d
+entry_set_other means none n xs a b c d x q s apart = cell_set_other means none xs (a * n + b) (c * n + d) x (place_other n c d a b s q apart)
 
 -- An entry of a square table, at a default.
 pub entry_is : {V W : Type 0} (means : V → W) (none : W) (n : ℕ) (xs : List V) (a b : ℕ) (d : V) → length xs ≡ n * n → a < n → b < n →

@@ -54,6 +54,13 @@ pub struct Scan {
 }
 
 impl Scan {
+    /// A scan that has met nothing.
+    pub fn new() -> Scan
+        ensures { Met result [] }
+    {
+        Scan::default()
+    }
+
     /// The scan after one more event.
     pub fn step(self, code: Code) -> Scan
         ensures { result ≡ stepped self code }
@@ -72,7 +79,7 @@ impl Scan {
         events
             .iter()
             .filter(|event| event.thread == thread)
-            .fold(Scan::default(), |met, event| met.step(event.code))
+            .fold(Scan::new(), |met, event| met.step(event.code))
     }
 }
 

@@ -67,9 +67,14 @@ impl fmt::Display for Label<'_> {
 
 /// The drawing. Threads without events have no column.
 pub fn draw(heap: Global, events: &[Event]) -> Result<String, AllocError> {
+    // The threads with events are sought once; a line asks these alone.
+    let mut threads = Vec::new(heap);
+    for thread in (0..THREADS).filter(|thread| number_in_thread(events, *thread, 0).is_some()) {
+        threads.push(thread)?;
+    }
     let mut text = draw_line(
         heap,
-        events,
+        &threads,
         |thread| -> Result<Option<String>, AllocError> {
             Ok(Some(format!(in heap; "thread {thread}")?))
         },
@@ -79,7 +84,7 @@ pub fn draw(heap: Global, events: &[Event]) -> Result<String, AllocError> {
     for row in 0..events.len() {
         let line = draw_line(
             heap,
-            events,
+            &threads,
             |thread| -> Result<Option<String>, AllocError> {
                 let Some(number) = number_in_thread(events, thread, row) else {
                     return Ok(None);
@@ -97,18 +102,17 @@ pub fn draw(heap: Global, events: &[Event]) -> Result<String, AllocError> {
     Ok(text)
 }
 
-// A line with the cell of each thread that has events, where it has one, in the thread's column.
+// A line with the cell of each of these threads, where it has one, in the thread's column.
 fn draw_line<F: Fn(u8) -> Result<Option<String>, AllocError>>(
     heap: Global,
-    events: &[Event],
+    threads: &[u8],
     cell_of: F,
 ) -> Result<String, AllocError>
     requires { F.IsAlwaysCallable cell_of }
 {
     let mut line = String::new(heap);
-    let threads = (0..THREADS).filter(|thread| number_in_thread(events, *thread, 0).is_some());
-    for (column, thread) in threads.enumerate() {
-        if let Some(cell) = cell_of(thread)? {
+    for (column, thread) in threads.iter().enumerate() {
+        if let Some(cell) = cell_of(*thread)? {
             // Blanks up to the column, which take no value of the range.
             for _ in line.len()..column.saturating_mul(WIDTH) {
                 line.push(' ')?;
@@ -121,10 +125,11 @@ fn draw_line<F: Fn(u8) -> Result<Option<String>, AllocError>>(
 
 // The number of the event of a thread that has `row` events of it before it.
 fn number_in_thread(events: &[Event], thread: u8, row: usize) -> Option<u8> {
+    // Numbers end at 255, which stands for all events behind it too; a graph has none of these.
     events
         .iter()
-        .zip(INITIAL..=u8::MAX)
-        .filter(|(event, _)| event.thread == thread)
-        .map(|(_, number)| number)
+        .enumerate()
+        .filter(|(_, event)| event.thread == thread)
         .nth(row)
+        .map(|(at, _)| at.saturating_add(INITIAL as usize).min(u8::MAX as usize) as u8)
 }

@@ -8,7 +8,7 @@ mod tests {
     use graph::event::Event;
     use reports::drawing::draw;
     use reports::options::{BadOption, Input, Options, ProfileName};
-    use reports::pairs::RulePair;
+    use reports::pairs::{RulePair, StrictPair};
     use reports::script::{BadLine, read_call};
     use std::test::Fail;
     use step_lists::step_list::{BadStep, StepList, read_step};
@@ -116,6 +116,26 @@ mod tests {
         };
         let words = format!(in rt.alloc(); "{pair}")?;
         assert!(rt; words.as_str() == "9 -> 11 kept by ra spush, pushed");
+        Ok(())
+    }
+
+    // Numbers end at 255: the events behind it are drawn with that number, and none is left out.
+    #[test]
+    fn more_events_than_numbers_are_drawn(rt: HostRuntime) -> Result<(), Fail> {
+        let events = [Event::fresh(0, Code::Write(WriteMode::Rlx), 0, 1); 250];
+        let drawing = draw(rt.alloc(), &events)?;
+        assert_eq!(rt; drawing.as_str().lines().count(), 251);
+        Ok(())
+    }
+
+    #[test]
+    fn words_of_a_strict_pair(rt: HostRuntime) -> Result<(), Fail> {
+        let events = [Event::fresh(0, Code::Fence(FenceMode::Sc), 0, 0); 2];
+        let Some(pair) = StrictPair::of(&events, 8, 9) else {
+            return Err(Fail::new("8 precedes 9"));
+        };
+        let words = format!(in rt.alloc(); "{}: {pair}", ProfileName::Strict)?;
+        assert!(rt; words.as_str() == "strict: 8 -> 9 kept, pushed");
         Ok(())
     }
 }

@@ -3,7 +3,7 @@ use Rattle.std.proofs.lemmas.Bool.{both_ways}
 use Rattle.std.proofs.lemmas.Bool.Decides.{Decides-at}
 use Rattle.axioms.proofs.Asking.{pushed_says}
 use Rattle.axioms.proofs.Entries.{decides_none}
-use Rattle.axioms.proofs.pairs.PushedPairsRelation.holds.Goals as goal
+use Rattle.axioms.proofs.pairs.PushedPairsRelationFamily.holds.Goals as goal
 
 pub returns-else-says : goal.returns-else-says
 returns-else-says g c told =
